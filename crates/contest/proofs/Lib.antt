@@ -1,0 +1,9 @@
+pub mod Goals
+pub mod Layering
+pub mod Racing
+pub mod Switching
+pub mod Runs
+pub mod Cut
+pub mod Piling
+pub mod Points
+pub mod Fronts

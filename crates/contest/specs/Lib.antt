@@ -1,0 +1,15 @@
+pub mod Sides
+pub mod Contests
+pub mod Rally
+pub mod Hand
+pub mod Service
+pub mod Goals
+pub mod Tally
+pub mod Faults
+pub mod Layers
+pub mod Races
+pub mod Switches
+pub mod Cuttings
+pub mod Piles
+pub mod Plays
+pub mod Built

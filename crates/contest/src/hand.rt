@@ -1,0 +1,83 @@
+ghost use mathlib.Core.Path.{_≡_};
+ghost use Rattle.contest.specs.Hand.{Standing as HandStanding, hand as hand-contest, standing-of};
+ghost use Rattle.contest.specs.Piles.{bottom-of, bottom};
+ghost use Rattle.contest.specs.Plays.{Tells};
+use crate::contest::Contest;
+use crate::fault::ContestFault;
+use crate::level::Level;
+use crate::play::Outcome;
+use crate::play::outcome_of;
+use crate::side::Side;
+use crate::side::SideDebug;
+use crate::side::SidePartialEq;
+
+// A contest for side-out scoring: a point for the server wins it, and a point for the other side makes that side the server.
+#[derive(Clone, Copy, Debug)]
+pub struct Hand {
+    opener: Side,
+    server: Side,
+    winner: Option<Side>,
+}
+
+impl Hand {
+    // A hand opened for side A.
+    pub fn new() -> Hand
+        ensures { λ r. ⌜ standing-of r ≡ hand-contest .opening Side.A ⌝ }
+    {
+        Hand {
+            opener: Side::A,
+            server: Side::A,
+            winner: None,
+        }
+    }
+
+    // A hand that is opened for `opener` and given the points.
+    pub fn play(opener: Side, points: &[Side], depth: u16) -> Outcome
+        ensures { λ r. ⌜ Tells (bottom hand-contest) opener (now (points .entry)) depth r ⌝ }
+    {
+        let mut hand = Hand::new();
+        outcome_of(&mut hand, opener, points, depth)
+    }
+}
+
+pub impl Contest for Hand as HandContest {
+    ghost shape = { bottom-of HandStanding };
+
+    ghost pile = { λ _. bottom hand-contest };
+
+    ghost standing = { standing-of };
+
+    fn open(&mut self, opener: Side) {
+        self.opener = opener;
+        self.server = opener;
+        self.winner = None;
+    }
+
+    fn point(&mut self, side: Side) -> Result<(), ContestFault> {
+        if self.winner.is_some() {
+            return Err(ContestFault::Decided);
+        }
+        if side == self.server {
+            self.winner = Some(side);
+        } else {
+            self.server = side;
+        }
+        Ok(())
+    }
+
+    fn winner(&self) -> Option<Side> {
+        self.winner
+    }
+
+    fn opener(&self) -> Side {
+        self.opener
+    }
+
+    fn server(&self) -> Side {
+        self.server
+    }
+
+    fn level(&self, _depth: u16) -> Option<Level> {
+        None
+    }
+}
