@@ -1,0 +1,5 @@
+use Rattle.formats.proofs.Anchors.{told-of}
+use Rattle.formats.proofs.play.play_badminton.Needs as need
+
+pub returns : need.returns
+returns c = told-of (c .badminton-pile .ensures .rules) (c .outcome-of .ensures .tells)

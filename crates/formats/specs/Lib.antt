@@ -1,0 +1,4 @@
+pub mod Formats
+pub mod Table
+pub mod Models
+pub mod Cases
