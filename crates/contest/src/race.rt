@@ -1,5 +1,5 @@
 ghost use mathlib.Core.Path.{_≡_};
-ghost use Rattle.contest.specs.Built.{race-pile, race-standing, New, Reopened, Counted};
+ghost use Rattle.contest.specs.Built.{race-pile, race-standing, New, Reopened, Passed-down, Counted};
 ghost use Rattle.contest.specs.Faults.{goal-fault};
 ghost use Rattle.contest.specs.Goals.{goal, winner-by};
 ghost use Rattle.contest.specs.Layers.{next-opener};
@@ -75,9 +75,16 @@ impl<C: Contest, P: Service> Race<C, P> {
         ensures { λ _. ⌜ Reopened (race-pile (C·Contest .pile) (P·Service .rule)) race-layer (race-standing (C·Contest .standing)) (now (self .entry)) (now (self .exit)) ⌝ }
     {
         if let Some(winner) = self.below.winner() {
-            let opener = self.next_opener(winner);
-            self.below.open(opener);
+            let next = self.next_opener(winner);
+            self.below.open(next);
         }
+    }
+
+    // Gives a point in the contest below.
+    fn point_below(&mut self, side: Side) -> Result<(), ContestFault>
+        ensures { λ r. ⌜ Passed-down (race-pile (C·Contest .pile) (P·Service .rule)) race-layer (race-standing (C·Contest .standing)) (now (self .entry)) (now (self .exit)) side r ⌝ }
+    {
+        self.below.point(side)
     }
 
     // Counts the contest below for its winner, where it has one.
@@ -109,7 +116,7 @@ pub impl<C: Contest, P: Service> Contest for Race<C, P> as RaceContest {
             return Err(ContestFault::Decided);
         }
         self.reopen();
-        self.below.point(side)?;
+        self.point_below(side)?;
         self.count_below();
         Ok(())
     }

@@ -118,8 +118,8 @@ impl<C: Contest, D: Contest, P: Service> Switch<C, D, P> {
         ensures { λ _. ⌜ Reopened (switch-pile (C·Contest .pile) (D·Contest .pile) (P·Service .rule)) switch-layer (switch-standing (C·Contest .standing) (D·Contest .standing)) (now (self .entry)) (now (self .exit)) ⌝ }
     {
         if let Some(winner) = self.winner_below() {
-            let opener = self.next_opener(winner);
-            self.open_below(opener);
+            let next = self.next_opener(winner);
+            self.open_below(next);
         }
     }
 

@@ -14,7 +14,7 @@ returns-in-Some g c =
     let s = c .args .self .now in
     let p = g .C·Contest .pile (s .ordinary) in
     let q = g .D·Contest .pile (s .deciding) in
-    let fresh = chosen-winner (contest-of p) (contest-of q) (pile-laws p (g .C·Contest·met .sound (s .ordinary))) (pile-laws q (g .D·Contest·met .sound (s .deciding))) (decisive (s .threshold) (counts-of (s .tally))) (c .next-opener-opener .result) in
+    let fresh = chosen-winner (contest-of p) (contest-of q) (pile-laws p (g .C·Contest·met .sound (s .ordinary))) (pile-laws q (g .D·Contest·met .sound (s .deciding))) (decisive (s .threshold) (counts-of (s .tally))) (c .next-opener-next .result) in
     record {
       kept = search needs;
       stood = search needs;
