@@ -8,11 +8,10 @@ use crate::level::Level;
 use crate::play::Outcome;
 use crate::play::outcome_of;
 use crate::side::Side;
-use crate::side::SideDebug;
 use crate::side::SidePartialEq;
 
 // A contest for side-out scoring: a point for the server wins it, and a point for the other side makes that side the server.
-#[derive(Clone, Copy, Debug)]
+#[derive(Clone, Copy)]
 pub struct Hand {
     opener: Side,
     server: Side,

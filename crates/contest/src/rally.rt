@@ -8,10 +8,9 @@ use crate::level::Level;
 use crate::play::Outcome;
 use crate::play::outcome_of;
 use crate::side::Side;
-use crate::side::SideDebug;
 
 // A contest that the first point wins.
-#[derive(Clone, Copy, Debug)]
+#[derive(Clone, Copy)]
 pub struct Rally {
     opener: Side,
     winner: Option<Side>,

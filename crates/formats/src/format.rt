@@ -1,6 +1,6 @@
 ghost use mathlib.Core.Logic.{_↔_};
 ghost use mathlib.Core.Path.{_≡_};
-ghost use Rattle.formats.specs.Formats.{code-of, name-of};
+ghost use Rattle.formats.specs.Formats.{code-of, name-of, format-of};
 ghost use Rattle.std.specs.declared.option.Option.the-variants.{Some};
 
 // A format, in the order of the codes.
@@ -43,12 +43,30 @@ const NAMES: [&str; 8] = [
 impl Format {
     // The format that has this code, where one has.
     pub fn from_code(code: u8) -> Option<Format>
-        ensures { λ r. ⌜ ((f : Format) → (r ≡ Some f) ↔ (code-of f ≡ code)) ⌝ }
+        ensures value { λ r. ⌜ r ≡ format-of code ⌝ }
+        ensures exactly { λ r. ⌜ ((f : Format) → (r ≡ Some f) ↔ (code-of f ≡ code)) ⌝ }
     {
         if code < 8 {
             Some(FORMATS[code as usize])
         } else {
             None
+        }
+    }
+
+    // The format that has this name, where one has.
+    pub fn from_name(name: &str) -> Option<Format>
+        ensures { λ r. ⌜ ((f : Format) → (r ≡ Some f) ↔ (name-of f ≡ now (name .entry))) ⌝ }
+    {
+        match name {
+            "game" => Some(Format::Game),
+            "tennis3" => Some(Format::Tennis3),
+            "tennis5" => Some(Format::Tennis5),
+            "tennismt" => Some(Format::TennisMt),
+            "badminton" => Some(Format::Badminton),
+            "volleyball" => Some(Format::Volleyball),
+            "table5" => Some(Format::Table5),
+            "sideout" => Some(Format::SideOut),
+            _ => None,
         }
     }
 

@@ -5,27 +5,27 @@ use super::Situation;
 use crate::side::Side;
 
 // The opener of the contest above opens every lower contest.
-#[derive(Clone, Copy, Debug)]
+#[derive(Clone, Copy)]
 pub struct Stay;
 
 // The sides open in turn.
-#[derive(Clone, Copy, Debug)]
+#[derive(Clone, Copy)]
 pub struct Turn;
 
 // The winner of the last lower contest opens the next.
-#[derive(Clone, Copy, Debug)]
+#[derive(Clone, Copy)]
 pub struct Winner;
 
 // The server that the last lower contest names, now that it is decided, opens the next.
-#[derive(Clone, Copy, Debug)]
+#[derive(Clone, Copy)]
 pub struct Carry;
 
 // The opener opens once, then each side twice in turn.
-#[derive(Clone, Copy, Debug)]
+#[derive(Clone, Copy)]
 pub struct Pairs;
 
 // Each side opens twice in turn, and once in turn as soon as both counts are at least ten.
-#[derive(Clone, Copy, Debug)]
+#[derive(Clone, Copy)]
 pub struct Twos;
 
 pub impl Service for Stay as StayService {

@@ -1,0 +1,5 @@
+// Scoring a log, and the score sheet.
+pub mod closing;
+mod sink;
+mod text;
+mod totals;
