@@ -1,2 +1,4 @@
 pub mod Sinking
 pub mod Entries
+pub mod Penned
+pub mod Putting

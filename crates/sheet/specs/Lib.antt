@@ -1,2 +1,4 @@
 pub mod Sinks
 pub mod Text
+pub mod Closings
+pub mod Scoring

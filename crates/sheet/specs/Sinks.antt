@@ -1,7 +1,7 @@
 -- What text is put into: one sink counts the bytes, the other writes them.
 use mathlib.Core.Path.{_≡_}
 use mathlib.Core.List.{List, [], _∷_}
-use Prim.Native.Nat.{ℕ, _+_, _-_, _^_, _<_, min}
+use Prim.Native.Nat.{ℕ, _+_, _-_, _^_, _≤_, _<_, min}
 use denote.Ref.{now, name}
 use lib.ListN.{length, set}
 use Rattle.sheet.specs.declared.sink.Measure.{Measure}
@@ -24,3 +24,8 @@ pub record Writes-one (s : Pen) (byte : ℕ) (t : Pen) : Type 0 where
   pub same : name (t .bytes) ≡ name (s .bytes)
   pub moved : s .at < length (now (s .bytes)) → t .at ≡ s .at + 1
   pub wrote : s .at < length (now (s .bytes)) → now (t .bytes) ≡ set (now (s .bytes)) (s .at) byte
+
+-- n is the length of the text, or, if it is the highest that can be counted, at most that
+pub record Measures (n : ℕ) (text : List ℕ) : Type 0 where
+  pub no-more : n ≤ length text
+  pub counted : n < 2 ^ 64 - 1 → n ≡ length text

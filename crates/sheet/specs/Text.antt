@@ -4,14 +4,16 @@ use Prim.Native.Nat.{ℕ, zero, suc, _+_}
 use lib.Chars.{codes}
 use Rattle.std.specs.Joined.{joined}
 use Rattle.std.specs.Written.{decimal}
-use Rattle.contest.specs.Contests.{Play}
+use Rattle.contest.specs.Contests.{Play, Contest}
 use Rattle.contest.specs.declared.level.Level.{Level}
 use Rattle.contest.specs.declared.side.Side.{Side}
 use Rattle.contest.specs.declared.side.Side.the-variants.{A, B}
+use Rattle.formats.specs.Formats.{name-of}
 use Rattle.rally_log.specs.Entries.{points-in, lets-in, count-of}
 use Rattle.rally_log.specs.Written.{letter}
 use Rattle.rally_log.specs.declared.entry.Entry.{Entry}
 use Rattle.sheet.specs.declared.closing.Closing.{Closing}
+use Rattle.sheet.specs.declared.text.Heading.{Heading}
 use Rattle.std.specs.declared.option.Option.{Option}
 use Rattle.std.specs.declared.option.Option.the-variants.{Some, None}
 
@@ -65,10 +67,10 @@ abbrev pub last-line : {S : Type 0} → Play S → S → Option Side → List �
 last-line p s (Some w) = line (codes "won") (side w ∷ [])
 last-line p s None = line (codes "serves") (side (p .server s) ∷ open-fields p s 16)
 
--- the sheet of a match with this number, format and opener: the entries of its log, their closings, and where it then stands
-abbrev pub sheet : {S : Type 0} → Play S → ℕ → List ℕ → Side → List Entry → List Closing → S → List ℕ
-sheet p number name o es closings s =
-    match-line number name o
+-- the sheet of a match: its heading, the entries of its log, their closings, and where it then stands
+unfoldable pub text-of : {S : Type 0} → Contest S → Heading → List Entry → List Closing → S → List ℕ
+text-of c h es closings s =
+    match-line (h .number) (name-of (h .format)) (h .opener)
     ++ (joined closing-line closings
     ++ (totals-line (count-of A (points-in es)) (count-of B (points-in es)) (lets-in es)
-    ++ last-line p s (p .winner s)))
+    ++ last-line (c .play) s (c .play .winner s)))

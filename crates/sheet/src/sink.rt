@@ -12,6 +12,7 @@ pub(crate) trait Sink {
 }
 
 // A sink that only counts the bytes.
+#[derive(Clone, Copy)]
 pub(crate) struct Measure {
     pub(crate) length: usize,
 }
@@ -25,6 +26,7 @@ pub(crate) impl Sink for Measure as MeasureSink {
 }
 
 // A sink that writes the bytes over those of a slice, from its first on, as far as they fit.
+#[derive(Drop)]
 pub(crate) struct Pen<'a> {
     pub(crate) bytes: &'a mut [u8],
     pub(crate) at: usize,

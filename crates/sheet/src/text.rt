@@ -1,10 +1,9 @@
 ghost use Prim.Native.Nat.{_+_, _^_, _<_};
 ghost use mathlib.Core.Path.{_≡_};
 ghost use Rattle.contest.specs.Piles.{contest-of};
-ghost use Rattle.formats.specs.Formats.{name-of};
 ghost use Rattle.roll.specs.Rolls.{entries};
 ghost use Rattle.sheet.specs.Sinks.{Puts};
-ghost use Rattle.sheet.specs.Text.{counts, side as side-field, match-line, closing-line, totals-line, open-field, open-fields, spaced, last-line, sheet as sheet-text};
+ghost use Rattle.sheet.specs.Text.{counts, side as side-field, match-line, closing-line, totals-line, open-field, open-fields, spaced, last-line, text-of};
 ghost use Rattle.std.specs.Joined.{joined};
 ghost use Rattle.std.specs.Written.{decimal};
 use crate::closing::Closing;
@@ -158,7 +157,7 @@ pub(crate) fn put_sheet<S: Sink, C: Contest>(
     log: &Roll<Entry>,
     closings: &Roll<Closing>,
 )
-    ensures { λ _. ⌜ Puts (S·Sink .takes) (now (sink .entry)) (sheet-text (contest-of (C·Contest .pile (now (pile .entry))) .play) (heading .number) (name-of (heading .format)) (heading .opener) (entries (now (log .entry))) (entries (now (closings .entry))) (C·Contest .standing (now (pile .entry)))) (now (sink .exit)) ⌝ }
+    ensures { λ _. ⌜ Puts (S·Sink .takes) (now (sink .entry)) (text-of (contest-of (C·Contest .pile (now (pile .entry)))) heading (entries (now (log .entry))) (entries (now (closings .entry))) (C·Contest .standing (now (pile .entry)))) (now (sink .exit)) ⌝ }
 {
     put_match(sink, heading.number, heading.format.name(), heading.opener);
     put_closings(sink, closings);

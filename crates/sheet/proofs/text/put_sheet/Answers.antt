@@ -1,10 +1,10 @@
 use mathlib.Core.Path.{ap}
-use native.Mathlib.Omega.{arith}
-use Rattle.sheet.specs.Text.{match-line, totals-line}
+use Rattle.sheet.specs.Text.{match-line, totals-line, text-of}
 use Rattle.sheet.proofs.Sinking.{then, put-as}
 use Rattle.sheet.proofs.text.put_sheet.Needs as need
 
 pub returns : need.returns
+unfolding text-of
 returns g c =
     let h = c .args .heading in
     let t = c .totals-of .ensures in
