@@ -2,3 +2,4 @@ pub mod Sinking
 pub mod Entries
 pub mod Penned
 pub mod Putting
+pub mod Through

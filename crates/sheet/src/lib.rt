@@ -1,6 +1,7 @@
 // Scoring a log, and the score sheet.
 pub mod closing;
 pub mod fault;
+pub mod score;
 mod scoring;
 mod sink;
 mod text;
