@@ -4,6 +4,8 @@ use Rattle.contest.specs.Service.{Rule, stay, turn, to-winner, carry, pairs, tw
 use Rattle.contest.specs.Goals.{goal}
 use Rattle.contest.specs.Rally.{Standing as RallyStanding, rally as rally-contest}
 use Rattle.contest.specs.Hand.{Standing as HandStanding, hand as hand-contest}
+use Rattle.formats.specs.declared.format.Format.{Format}
+use Rattle.formats.specs.declared.format.Format.the-variants.{Game, Tennis3, Tennis5, TennisMt, Badminton, Volleyball, Table5, SideOut}
 use Rattle.contest.specs.Piles.{Shape, bottom-of, race-of, switch-of, Pile, bottom, raced, switched}
 
 -- the contests at the bottom
@@ -57,3 +59,14 @@ table5 = R 3 1 3 turn (R 11 2 9999 twos rally)
 
 abbrev pub sideout : Pile (race-of Hands)
 sideout = R 2 1 2 to-winner (R 15 1 15 to-winner hand)
+
+-- P of the pile of a format
+abbrev pub In-format : Format → ((h : Shape) → Pile h → Type 0) → Type 0
+In-format Game P = P _ game
+In-format Tennis3 P = P _ tennis3
+In-format Tennis5 P = P _ tennis5
+In-format TennisMt P = P _ tennismt
+In-format Badminton P = P _ badminton
+In-format Volleyball P = P _ volleyball
+In-format Table5 P = P _ table5
+In-format SideOut P = P _ sideout

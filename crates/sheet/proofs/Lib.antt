@@ -3,3 +3,4 @@ pub mod Entries
 pub mod Penned
 pub mod Putting
 pub mod Through
+pub mod Taking

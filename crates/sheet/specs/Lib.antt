@@ -4,3 +4,4 @@ pub mod Closings
 pub mod Scoring
 pub mod Faults
 pub mod Scores
+pub mod Sheets

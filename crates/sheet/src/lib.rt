@@ -3,6 +3,7 @@ pub mod closing;
 pub mod fault;
 pub mod score;
 mod scoring;
+pub mod sheets;
 mod sink;
 mod text;
 mod totals;

@@ -46,14 +46,14 @@ fn write_scored<C: Contest>(
 }
 
 // Scores a log in a format.
-fn score_in<C: Contest + Drop>(
+pub(crate) fn score_in<C: Contest + Drop>(
     mut pile: C,
     heading: Heading,
     log: &Roll<Entry>,
     closings: &mut Roll<Closing>,
     sheet: &mut [u8],
 ) -> Result<Scored, ScoreFault>
-    ensures scores { λ r. ⌜ Scores-in (contest-of (C·Contest .pile pile)) (heading .number) (heading .opener) (entries (now (log .entry))) (heading .format) (entries (now (closings .entry)) ++ spare (now (closings .entry))) (now (sheet .entry)) r (entries (now (closings .exit))) (spare (now (closings .exit))) (now (sheet .exit)) ⌝ }
+    ensures scores { λ r. ⌜ Scores-in (C·Contest .pile pile) (heading .number) (heading .opener) (entries (now (log .entry))) (heading .format) (entries (now (closings .entry)) ++ spare (now (closings .entry))) (now (sheet .entry)) r (entries (now (closings .exit))) (spare (now (closings .exit))) (now (sheet .exit)) ⌝ }
     ensures same { λ _. ⌜ name (now (closings .exit) .places) ≡ name (now (closings .entry) .places) ⌝ }
 {
     pile.open(heading.opener);
@@ -73,7 +73,7 @@ pub fn score<C: Contest + Drop>(
     closings: &mut Roll<Closing>,
     sheet: &mut [u8],
 ) -> Result<Scored, ScoreFault>
-    ensures scores { λ r. ⌜ Scores (contest-of (C·Contest .pile pile)) number code opener (entries (now (log .entry))) (entries (now (closings .entry))) (spare (now (closings .entry))) (now (sheet .entry)) r (entries (now (closings .exit))) (spare (now (closings .exit))) (now (sheet .exit)) ⌝ }
+    ensures scores { λ r. ⌜ Scores (C·Contest .pile pile) number code opener (entries (now (log .entry))) (entries (now (closings .entry))) (spare (now (closings .entry))) (now (sheet .entry)) r (entries (now (closings .exit))) (spare (now (closings .exit))) (now (sheet .exit)) ⌝ }
     ensures same { λ _. ⌜ name (now (closings .exit) .places) ≡ name (now (closings .entry) .places) ⌝ }
 {
     match Format::from_code(code) {

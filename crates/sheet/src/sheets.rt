@@ -1,0 +1,56 @@
+ghost use mathlib.Core.List.{_++_};
+ghost use mathlib.Core.Path.{_≡_};
+ghost use denote.Ref.{name};
+ghost use Rattle.formats.specs.Table.{In-format};
+ghost use Rattle.roll.specs.Rolls.{entries, spare};
+ghost use Rattle.sheet.specs.Scores.{Scores-in};
+ghost use Rattle.sheet.specs.Sheets.{Sheet-of};
+use crate::closing::Closing;
+use crate::fault::LogFault;
+use crate::fault::ScoreFault;
+use crate::score::Scored;
+use crate::score::score_in;
+use crate::text::Heading;
+use contest::hand::HandContest;
+use contest::race::RaceContest;
+use contest::rally::RallyContest;
+use contest::service::rules::CarryService;
+use contest::service::rules::PairsService;
+use contest::service::rules::StayService;
+use contest::service::rules::TurnService;
+use contest::service::rules::TwosService;
+use contest::service::rules::WinnerService;
+use contest::switch::layer::SwitchContest;
+use formats::format::Format;
+use formats::piles::badminton;
+use formats::piles::game;
+use formats::piles::sideout;
+use formats::piles::table5;
+use formats::piles::tennis3;
+use formats::piles::tennis5;
+use formats::piles::tennismt;
+use formats::piles::volleyball;
+use rally_log::entry::Entry;
+use roll::Roll;
+
+// Scores a log with the pile of its format.
+fn score_format(
+    heading: Heading,
+    log: &Roll<Entry>,
+    closings: &mut Roll<Closing>,
+    sheet: &mut [u8],
+) -> Result<Scored, ScoreFault>
+    ensures scored { λ r. ⌜ In-format (heading .format) (λ h p. Scores-in p (heading .number) (heading .opener) (entries (now (log .entry))) (heading .format) (entries (now (closings .entry)) ++ spare (now (closings .entry))) (now (sheet .entry)) r (entries (now (closings .exit))) (spare (now (closings .exit))) (now (sheet .exit))) ⌝ }
+    ensures same { λ _. ⌜ name (now (closings .exit) .places) ≡ name (now (closings .entry) .places) ⌝ }
+{
+    match heading.format {
+        Format::Game => score_in(game(), heading, log, closings, sheet),
+        Format::Tennis3 => score_in(tennis3(), heading, log, closings, sheet),
+        Format::Tennis5 => score_in(tennis5(), heading, log, closings, sheet),
+        Format::TennisMt => score_in(tennismt(), heading, log, closings, sheet),
+        Format::Badminton => score_in(badminton(), heading, log, closings, sheet),
+        Format::Volleyball => score_in(volleyball(), heading, log, closings, sheet),
+        Format::Table5 => score_in(table5(), heading, log, closings, sheet),
+        Format::SideOut => score_in(sideout(), heading, log, closings, sheet),
+    }
+}
