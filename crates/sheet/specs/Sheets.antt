@@ -21,21 +21,24 @@ use Rattle.std.specs.declared.option.Option.the-variants.{Some}
 use Rattle.std.specs.declared.result.Result.{Result}
 use Rattle.std.specs.declared.result.Result.the-variants.{Ok, Err}
 
--- the answer, and what the places for entries and closings and the bytes for the sheet hold afterwards
+-- a log with this header was scored in the format that the header names: the answer, the closings and the sheet are the ones that are defined for that format's pile; where there is a sheet, the pile took all the points, and they have their cutting, layer by layer
+pub record Scored-so (header : Header) (log : List Entry) (closings : List Closing) (sheet : List ℕ) (closings-after : List Closing) (sheet-after : List ℕ) (r : Result Scored ScoreFault) : Type 0 where
+  pub format : Format
+  pub named : format-of (header .code) ≡ Some format
+  pub held : List Closing
+  pub left : List Closing
+  pub closings-are : closings-after ≡ held ++ left
+  pub scored : In-format format (λ h p. Scores-in p (header .number) (header .opener) log format closings sheet r held left sheet-after)
+
+-- what holds of bytes that were given with places for entries and closings and bytes for a sheet, and of what these hold afterwards
 module _ (bytes : List ℕ) (entries : List Entry) (closings : List Closing) (sheet : List ℕ) (entries-after : List Entry) (closings-after : List Closing) (sheet-after : List ℕ) where
-  -- the bytes are the ones written for a header and a list of entries, whose log was scored in the format that the header names
+  -- the bytes are the ones written for a header and a list of entries, and that log was scored
   pub record Read-and-scored (r : Result Scored ScoreFault) : Type 0 where
     pub header : Header
     pub log : List Entry
     pub accepted : Accepted bytes (most [] entries) header log
     pub entries-are : entries-after ≡ log ++ drop (length log) entries
-    pub format : Format
-    pub named : format-of (header .code) ≡ Some format
-    -- the answer, the closings and the sheet are the ones that are defined for that format's pile; where there is a sheet, the pile took all the points, and they have their cutting, layer by layer
-    pub held : List Closing
-    pub left : List Closing
-    pub closings-are : closings-after ≡ held ++ left
-    pub scored : In-format format (λ h p. Scores-in p (header .number) (header .opener) log format closings sheet r held left sheet-after)
+    pub scores : Scored-so header log closings sheet closings-after sheet-after r
 
   -- the bytes could not be read: the fault is the one that is defined for them, and no other would fit
   pub record Not-read (fault : ReadFault) : Type 0 where
@@ -46,6 +49,7 @@ module _ (bytes : List ℕ) (entries : List Entry) (closings : List Closing) (sh
     pub closings-are : closings-after ≡ closings
     pub sheet-is : sheet-after ≡ sheet
 
+  -- the one or the other, by the answer
   abbrev pub Sheet-of : Result Scored LogFault → Type 0
   Sheet-of (Ok s) = Read-and-scored (Ok s)
   Sheet-of (Err (Scoring f)) = Read-and-scored (Err f)

@@ -1,10 +1,11 @@
 ghost use mathlib.Core.List.{_++_};
 ghost use mathlib.Core.Path.{_≡_};
+ghost use Prim.Native.Nat.{_≤_};
 ghost use denote.Ref.{name};
 ghost use Rattle.formats.specs.Table.{In-format};
 ghost use Rattle.roll.specs.Rolls.{entries, spare};
 ghost use Rattle.sheet.specs.Scores.{Scores-in};
-ghost use Rattle.sheet.specs.Sheets.{Sheet-of};
+ghost use Rattle.sheet.specs.Sheets.{Scored-so, Sheet-of};
 use crate::closing::Closing;
 use crate::fault::LogFault;
 use crate::fault::ScoreFault;
@@ -31,6 +32,8 @@ use formats::piles::tennis5;
 use formats::piles::tennismt;
 use formats::piles::volleyball;
 use rally_log::entry::Entry;
+use rally_log::entry::Header;
+use rally_log::reading::read;
 use roll::Roll;
 
 // Scores a log with the pile of its format.
@@ -52,5 +55,49 @@ fn score_format(
         Format::Volleyball => score_in(volleyball(), heading, log, closings, sheet),
         Format::Table5 => score_in(table5(), heading, log, closings, sheet),
         Format::SideOut => score_in(sideout(), heading, log, closings, sheet),
+    }
+}
+
+// Scores a log that was read.
+fn score_read(
+    header: Header,
+    log: &Roll<Entry>,
+    closings: &mut [Closing],
+    sheet: &mut [u8],
+) -> Result<Scored, ScoreFault>
+    requires { ⌜ header .code ≤ 7 ⌝ }
+    ensures { λ r. ⌜ Scored-so header (entries (now (log .entry))) (now (closings .entry)) (now (sheet .entry)) (now (closings .exit)) (now (sheet .exit)) r ⌝ }
+{
+    let mut roll = Roll::new(closings);
+    match Format::from_code(header.code) {
+        Some(format) => {
+            let heading = Heading {
+                number: header.number,
+                format,
+                opener: header.opener,
+            };
+            score_format(heading, log, &mut roll, sheet)
+        }
+        None => unreachable(),
+    }
+}
+
+// From the bytes of a log to the bytes of its sheet: reads the log into the places for entries, scores it with the pile of its
+// format, keeps the closings in the places for closings, and writes the sheet.
+pub fn score_log(
+    bytes: &[u8],
+    entries: &mut [Entry],
+    closings: &mut [Closing],
+    sheet: &mut [u8],
+) -> Result<Scored, LogFault>
+    ensures { λ r. ⌜ Sheet-of (now (bytes .entry)) (now (entries .entry)) (now (closings .entry)) (now (sheet .entry)) (now (entries .exit)) (now (closings .exit)) (now (sheet .exit)) r ⌝ }
+{
+    let mut log = Roll::new(entries);
+    match read(bytes, &mut log) {
+        Ok(header) => match score_read(header, &log, closings, sheet) {
+            Ok(scored) => Ok(scored),
+            Err(fault) => Err(LogFault::Scoring(fault)),
+        },
+        Err(fault) => Err(LogFault::Reading(fault)),
     }
 }
