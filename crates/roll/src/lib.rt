@@ -3,8 +3,8 @@ ghost use Prim.Native.Nat.{_≤_};
 ghost use denote.Ref.{now as held};
 ghost use lib.ListN.{length};
 
-pub mod records;
 pub mod lending;
+pub mod records;
 
 // The refusal of a record: the roll has no free place.
 #[derive(Clone, Copy, Debug)]

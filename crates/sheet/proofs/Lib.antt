@@ -4,3 +4,4 @@ pub mod Penned
 pub mod Putting
 pub mod Through
 pub mod Taking
+pub mod Fitting

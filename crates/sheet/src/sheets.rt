@@ -2,6 +2,8 @@ ghost use mathlib.Core.List.{_++_};
 ghost use mathlib.Core.Path.{_≡_};
 ghost use Prim.Native.Nat.{_≤_};
 ghost use denote.Ref.{name};
+ghost use lib.ListN.{length};
+ghost use Rattle.std.specs.Vec.{made};
 ghost use Rattle.formats.specs.Table.{In-format};
 ghost use Rattle.roll.specs.Rolls.{entries, spare};
 ghost use Rattle.sheet.specs.Scores.{Scores-in};
@@ -90,7 +92,8 @@ pub fn score_log(
     closings: &mut [Closing],
     sheet: &mut [u8],
 ) -> Result<Scored, LogFault>
-    ensures { λ r. ⌜ Sheet-of (now (bytes .entry)) (now (entries .entry)) (now (closings .entry)) (now (sheet .entry)) (now (entries .exit)) (now (closings .exit)) (now (sheet .exit)) r ⌝ }
+    ensures within { λ r. ⌜ made r (λ s. s .length ≤ length (now (sheet .entry))) ⌝ }
+    ensures whole { λ r. ⌜ Sheet-of (now (bytes .entry)) (now (entries .entry)) (now (closings .entry)) (now (sheet .entry)) (now (entries .exit)) (now (closings .exit)) (now (sheet .exit)) r ⌝ }
 {
     let mut log = Roll::new(entries);
     match read(bytes, &mut log) {

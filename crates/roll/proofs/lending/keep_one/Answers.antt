@@ -1,5 +1,4 @@
 use mathlib.Core.Path.{_≡_, sym, ap, ap₂, _∙_}
-use mathlib.Core.Bool.{Bool}
 use mathlib.Core.List.{[], _++_}
 use borrow.Author.Needs.{needs}
 use Rattle.std.proofs.shelf.Lists.{take-append-drop}

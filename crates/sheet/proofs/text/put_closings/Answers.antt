@@ -14,12 +14,12 @@ loop-closing-holds g c = none
 
 pub loop-closing-less : need.loop-closing-less
 loop-closing-less g c =
-    let below = at-some (entries (c .args .closings .now)) (c .loop-closing .index) (c .in-Some .closing) (sym (c .in-Some .ensures tt)) .0 in
+    let below = at-some (entries (c .args .closings .now)) (c .loop-closing .index) (c .in-Some .closing) (c .in-Some .ensures tt) .0 in
     omega arith
 
 pub loop-closing-again : need.loop-closing-again
 loop-closing-again g c =
-    let more = joined-next closing-line (entries (c .args .closings .now)) (c .loop-closing .index) (c .in-Some .closing) (sym (c .in-Some .ensures tt)) in
+    let more = joined-next closing-line (entries (c .args .closings .now)) (c .loop-closing .index) (c .in-Some .closing) (c .in-Some .ensures tt) in
     subst (λ xs. Puts (g .S·Sink .takes) (c .args .sink .now) xs (c .put-closing .last .sink)) (sym more) (then (c .loop-closing .inv) (c .put-closing .ensures))
 
 pub returns : need.returns
@@ -27,11 +27,11 @@ returns g c =
     let es = entries (c .args .closings .now) in
     let i = c .loop-closing .index in
     subst (λ xs. Puts (g .S·Sink .takes) (c .args .sink .now) (joined closing-line xs) (c .loop-closing .sink))
-    (take-all i es (at-none es i (sym (c .in-rest .ensures tt)))) (c .loop-closing .inv)
+    (take-all i es (at-none es i (c .in-rest .ensures tt))) (c .loop-closing .inv)
 
 pub add-index : need.add-index
 add-index g c =
     let roll = c .args .closings .now in
-    let below = at-some (entries roll) (c .loop-closing .index) (c .in-Some .closing) (sym (c .in-Some .ensures tt)) .0 in
+    let below = at-some (entries roll) (c .loop-closing .index) (c .in-Some .closing) (c .in-Some .ensures tt) .0 in
     let long = length-take-le (roll .count) (roll .places .now) (roll .within) in
     omega (arith, roll .few)
