@@ -2,51 +2,10 @@
 //! with a small random number generator, so that one seed always gives the
 //! same table.
 
+use crate::dice::Dice;
 use crate::formats::{Format, Match};
 use crate::side::Side;
 use Side::{A, B};
-
-/// SplitMix64.
-struct Dice {
-    state: u64,
-}
-
-impl Dice {
-    fn next(&mut self) -> u64 {
-        self.state = self.state.wrapping_add(0x9E37_79B9_7F4A_7C15);
-        let mut z = self.state;
-        z = (z ^ (z >> 30)).wrapping_mul(0xBF58_476D_1CE4_E5B9);
-        z = (z ^ (z >> 27)).wrapping_mul(0x94D0_49BB_1331_11EB);
-        z ^ (z >> 31)
-    }
-
-    fn below(&mut self, limit: usize) -> usize {
-        (self.next() >> 33) as usize % limit
-    }
-
-    /// True in so many of a hundred throws.
-    fn percent(&mut self, chance: usize) -> bool {
-        self.below(100) < chance
-    }
-
-    fn side(&mut self) -> Side {
-        if self.percent(50) {
-            A
-        } else {
-            B
-        }
-    }
-
-    /// So many for one side and so many for the other, in any order.
-    fn mixed(&mut self, side: Side, own: usize, theirs: usize) -> Vec<Side> {
-        let mut all = vec![side; own];
-        all.extend(vec![side.other(); theirs]);
-        for i in (1..all.len()).rev() {
-            all.swap(i, self.below(i + 1));
-        }
-        all
-    }
-}
 
 fn letters(sides: &[Side]) -> String {
     sides.iter().map(|side| side.letter()).collect()
@@ -167,7 +126,7 @@ impl Table {
 
 /// The whole table for a seed.
 pub fn table(seed: u64) -> String {
-    let mut dice = Dice { state: seed };
+    let mut dice = Dice::new(seed);
     let mut table = Table {
         text: String::new(),
     };
@@ -370,7 +329,7 @@ mod tests {
     #[test]
     fn built_matches_end_with_their_last_point() {
         for seed in 0..20 {
-            let dice = &mut Dice { state: seed };
+            let dice = &mut Dice::new(seed);
             let built = [
                 (
                     Format::Tennis3,

@@ -2,9 +2,12 @@
 //! side-out game, each written out from its own rules.
 
 mod badminton;
+mod compare;
+mod dice;
 mod formats;
 mod generate;
 mod rally_log;
+mod random_logs;
 mod replay;
 mod sheet;
 mod side;
@@ -21,7 +24,8 @@ const USAGE: &str = "usage:
   reference sheet FILE                      score sheet of a rally log
   reference replay < TABLE                  what became of each match of a table
   reference gen SEED                        a table of matches
-  reference log NAME NUMBER OPENER POINTS   bytes of a rally log (A, B, L)";
+  reference log NAME NUMBER OPENER POINTS   bytes of a rally log (A, B, L)
+  reference compare PROGRAM COUNT SEED      holds a program to random logs";
 
 fn main() -> ExitCode {
     let words: Vec<String> = std::env::args().skip(1).collect();
@@ -31,6 +35,7 @@ fn main() -> ExitCode {
         ["replay"] => replay_input(),
         ["gen", seed] => table_for(seed),
         ["log", name, number, opener, points] => log_bytes(name, number, opener, points),
+        ["compare", program, count, seed] => comparison(program, count, seed),
         _ => Err(USAGE.to_string()),
     };
     let written = done.and_then(|bytes| {
@@ -73,11 +78,19 @@ fn replay_input() -> Result<Vec<u8>, String> {
     Ok(replay::table(&text)?.into_bytes())
 }
 
+fn whole_number(name: &str, text: &str) -> Result<u64, String> {
+    text.parse()
+        .map_err(|_| format!("the {name} is not a whole number"))
+}
+
 fn table_for(seed: &str) -> Result<Vec<u8>, String> {
-    let seed = seed
-        .parse()
-        .map_err(|_| "the seed is not a whole number".to_string())?;
-    Ok(generate::table(seed).into_bytes())
+    Ok(generate::table(whole_number("seed", seed)?).into_bytes())
+}
+
+fn comparison(program: &str, count: &str, seed: &str) -> Result<Vec<u8>, String> {
+    let count = whole_number("count", count)?;
+    let seed = whole_number("seed", seed)?;
+    Ok(compare::with_program(program, count, seed)?.into_bytes())
 }
 
 fn log_bytes(name: &str, number: &str, opener: &str, points: &str) -> Result<Vec<u8>, String> {

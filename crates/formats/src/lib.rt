@@ -3,3 +3,5 @@ pub mod cases;
 pub mod format;
 pub mod piles;
 pub mod play;
+#[cfg(test)]
+mod tests;

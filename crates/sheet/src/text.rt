@@ -1,4 +1,4 @@
-ghost use Prim.Native.Nat.{_+_, _^_, _<_};
+ghost use Prim.Native.Nat.{_+_, _%_, _^_, _<_};
 ghost use mathlib.Core.Path.{_≡_};
 ghost use Rattle.contest.specs.Piles.{contest-of};
 ghost use Rattle.roll.specs.Rolls.{entries};
@@ -39,6 +39,13 @@ fn put_text<S: Sink>(sink: &mut S, text: &str)
     put_bytes(sink, text.as_bytes());
 }
 
+// The last decimal digit of a number.
+fn last_digit(n: u16) -> u8
+    ensures { λ r. ⌜ r ≡ 48 + n % 10 ⌝ }
+{
+    b'0' + (n % 10) as u8
+}
+
 // A number in decimal digits.
 fn put_number<S: Sink>(sink: &mut S, n: u16)
     ensures { λ _. ⌜ Puts (S·Sink .takes) (now (sink .entry)) (decimal n) (now (sink .exit)) ⌝ }
@@ -46,7 +53,7 @@ fn put_number<S: Sink>(sink: &mut S, n: u16)
     if n >= 10 {
         put_number(sink, n / 10);
     }
-    sink.put(b'0' + (n % 10) as u8);
+    sink.put(last_digit(n));
 }
 
 fn put_counts<S: Sink>(sink: &mut S, a: u16, b: u16)
