@@ -8,7 +8,6 @@ use Rattle.sheet.specs.Sinks.{Takes-all, Puts}
 pub none : {X : Type 0} {takes : X → ℕ → X → Type 0} {s : X} → Puts takes s [] s
 none = record { all = refl }
 
-
 -- some bytes, and then more
 all-then : {X : Type 0} (takes : X → ℕ → X → Type 0) (s t u : X) (xs ys : List ℕ) → Takes-all takes s xs t → Takes-all takes t ys u → Takes-all takes s (xs ++ ys) u
 all-then takes s t u [] ys h k = subst (λ v. Takes-all takes v ys u) h k

@@ -67,10 +67,12 @@ fn put_counts<S: Sink>(sink: &mut S, a: u16, b: u16)
 fn put_side<S: Sink>(sink: &mut S, side: Side)
     ensures { λ _. ⌜ Puts (S·Sink .takes) (now (sink .entry)) (side-field side) (now (sink .exit)) ⌝ }
 {
-    sink.put(match side {
-        Side::A => b'A',
-        Side::B => b'B',
-    });
+    sink.put(
+        match side {
+            Side::A => b'A',
+            Side::B => b'B',
+        },
+    );
 }
 
 fn put_closing<S: Sink>(sink: &mut S, closing: Closing)

@@ -20,10 +20,10 @@ returns g t c =
     let takes = g .S·Sink .takes in
     let put : Puts takes (c .if-n-ge10 .sink) ((48 + n % 10) ∷ []) (c .put .last .self) = put-as (ap (λ d. d ∷ []) (c .last-digit .ensures)) (c .put .ensures) in
     elim (c .if-n-ge10 .came) [
-      then-n-ge10 w ↦
-        subst (λ xs. Puts takes (c .args .sink .now) xs (c .put .last .self)) (sym (decimal-step n (w .if-n-ge10 .taken) (omega arith)))
-        (then (w .put-number .ensures) (subst (λ s. Puts takes s ((48 + n % 10) ∷ []) (c .put .last .self)) (w .sink-is) put))
-    | else-n-ge10 w ↦
-        subst (λ xs. Puts takes (c .args .sink .now) xs (c .put .last .self)) (last-digit n (w .if-n-ge10 .left))
-        (subst (λ s. Puts takes s ((48 + n % 10) ∷ []) (c .put .last .self)) (w .sink-is) put)
+      | then-n-ge10 w ↦
+          subst (λ xs. Puts takes (c .args .sink .now) xs (c .put .last .self)) (sym (decimal-step n (w .if-n-ge10 .taken) (omega arith)))
+          (then (w .put-number .ensures) (subst (λ s. Puts takes s ((48 + n % 10) ∷ []) (c .put .last .self)) (w .sink-is) put))
+      | else-n-ge10 w ↦
+          subst (λ xs. Puts takes (c .args .sink .now) xs (c .put .last .self)) (last-digit n (w .if-n-ge10 .left))
+          (subst (λ s. Puts takes s ((48 + n % 10) ∷ []) (c .put .last .self)) (w .sink-is) put)
     ]

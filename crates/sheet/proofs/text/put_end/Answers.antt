@@ -17,11 +17,11 @@ returns g c =
     let p = contest-of (g .C·Contest .pile (c .args .pile .now)) .play in
     let s = g .C·Contest .standing (c .args .pile .now) in
     elim (c .match-winner .came) [
-      in-Some w ↦
-        put-as (ap (last-line p s) (w .in-Some .ensures tt)) (then (w .put-text .ensures) (then (w .put-side .ensures) (put-from (w .sink-is) (c .put .ensures))))
-    | in-None w ↦
-        put-as (ap (last-line p s) (w .in-None .ensures tt))
-        (then (w .put-text-in-None .ensures)
-        (then (put-as (ap side (w .server .ensures)) (w .put-side-in-None .ensures))
-        (put-as (line-ends (open-fields p s 16)) (then (w .put-open-levels .ensures) (put-from (w .sink-is) (c .put .ensures))))))
+      | in-Some w ↦
+          put-as (ap (last-line p s) (w .in-Some .ensures tt)) (then (w .put-text .ensures) (then (w .put-side .ensures) (put-from (w .sink-is) (c .put .ensures))))
+      | in-None w ↦
+          put-as (ap (last-line p s) (w .in-None .ensures tt))
+          (then (w .put-text-in-None .ensures)
+          (then (put-as (ap side (w .server .ensures)) (w .put-side-in-None .ensures))
+          (put-as (line-ends (open-fields p s 16)) (then (w .put-open-levels .ensures) (put-from (w .sink-is) (c .put .ensures))))))
     ]
