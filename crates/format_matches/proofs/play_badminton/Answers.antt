@@ -1,0 +1,6 @@
+-- The pile is the table's.
+use Rattle.format_matches.proofs.Formats.{in-format}
+use Rattle.format_matches.proofs.play_badminton.Needs as need
+
+pub returns : need.returns
+returns c = in-format (c .badminton .ensures .rules) (c .play .ensures)

@@ -1,0 +1,9 @@
+pub mod Refusals
+pub mod Lists
+pub mod Inductions
+pub mod Unmet
+pub mod Counts
+pub mod Mirrors
+pub mod Turns
+pub mod Promise
+pub mod Only
