@@ -28,55 +28,55 @@ use contest::switch::layer::SwitchContest;
 pub fn play_game(opener: Side, points: &[Side], depth: u16) -> Outcome
     ensures { λ r. ⌜ Tells table.game opener (now (points .entry)) depth r ⌝ }
 {
-    let mut pile = game();
-    outcome_of(&mut pile, opener, points, depth)
+    let mut game = game();
+    outcome_of(&mut game, opener, points, depth)
 }
 
 pub fn play_tennis3(opener: Side, points: &[Side], depth: u16) -> Outcome
     ensures { λ r. ⌜ Tells table.tennis3 opener (now (points .entry)) depth r ⌝ }
 {
-    let mut pile = tennis3();
-    outcome_of(&mut pile, opener, points, depth)
+    let mut tennis3 = tennis3();
+    outcome_of(&mut tennis3, opener, points, depth)
 }
 
 pub fn play_tennis5(opener: Side, points: &[Side], depth: u16) -> Outcome
     ensures { λ r. ⌜ Tells table.tennis5 opener (now (points .entry)) depth r ⌝ }
 {
-    let mut pile = tennis5();
-    outcome_of(&mut pile, opener, points, depth)
+    let mut tennis5 = tennis5();
+    outcome_of(&mut tennis5, opener, points, depth)
 }
 
 pub fn play_tennismt(opener: Side, points: &[Side], depth: u16) -> Outcome
     ensures { λ r. ⌜ Tells table.tennismt opener (now (points .entry)) depth r ⌝ }
 {
-    let mut pile = tennismt();
-    outcome_of(&mut pile, opener, points, depth)
+    let mut tennismt = tennismt();
+    outcome_of(&mut tennismt, opener, points, depth)
 }
 
 pub fn play_badminton(opener: Side, points: &[Side], depth: u16) -> Outcome
     ensures { λ r. ⌜ Tells table.badminton opener (now (points .entry)) depth r ⌝ }
 {
-    let mut pile = badminton();
-    outcome_of(&mut pile, opener, points, depth)
+    let mut badminton = badminton();
+    outcome_of(&mut badminton, opener, points, depth)
 }
 
 pub fn play_volleyball(opener: Side, points: &[Side], depth: u16) -> Outcome
     ensures { λ r. ⌜ Tells table.volleyball opener (now (points .entry)) depth r ⌝ }
 {
-    let mut pile = volleyball();
-    outcome_of(&mut pile, opener, points, depth)
+    let mut volleyball = volleyball();
+    outcome_of(&mut volleyball, opener, points, depth)
 }
 
 pub fn play_table5(opener: Side, points: &[Side], depth: u16) -> Outcome
     ensures { λ r. ⌜ Tells table.table5 opener (now (points .entry)) depth r ⌝ }
 {
-    let mut pile = table5();
-    outcome_of(&mut pile, opener, points, depth)
+    let mut table5 = table5();
+    outcome_of(&mut table5, opener, points, depth)
 }
 
 pub fn play_sideout(opener: Side, points: &[Side], depth: u16) -> Outcome
     ensures { λ r. ⌜ Tells table.sideout opener (now (points .entry)) depth r ⌝ }
 {
-    let mut pile = sideout();
-    outcome_of(&mut pile, opener, points, depth)
+    let mut sideout = sideout();
+    outcome_of(&mut sideout, opener, points, depth)
 }

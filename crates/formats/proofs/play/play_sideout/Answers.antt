@@ -2,4 +2,4 @@ use Rattle.formats.proofs.Anchors.{told-of}
 use Rattle.formats.proofs.play.play_sideout.Needs as need
 
 pub returns : need.returns
-returns c = told-of (c .sideout-pile .ensures .rules) (c .outcome-of .ensures .tells)
+returns c = told-of (c .sideout-sideout .ensures .rules) (c .outcome-of .ensures .tells)
