@@ -3,8 +3,8 @@ use mathlib.Core.Path.{_≡_, refl, sym, ap, subst, _∙_}
 use mathlib.Core.List.{List, [], _∷_, _++_, append-nil, append-assoc}
 use Rattle.contest.specs.Contests.{Fair-play, run, Taken, played}
 use Rattle.contest.specs.Goals.{Counts, Wins, none-yet, winner-by, tallied}
-use Rattle.contest.specs.Layers.{Layer, Standing, layer, stands, next-opener, ready, recounted, reached}
-use Rattle.contest.specs.Cuttings.{Piece, Cutting, Start, first, begun, ended, next, Along, Played, joined, Cuts, won, stands-at, level-of, Parted}
+use Rattle.contest.specs.Layers.{Layer, Standing, layer, stands, next-opener, ready, recounted, reached, served}
+use Rattle.contest.specs.Cuttings.{Piece, Cutting, Start, first, begun, ended, next, Along, Played, joined, Cuts, won, stands-at, serves-at, level-of, Parted}
 use Rattle.contest.specs.declared.side.Side.{Side}
 use Rattle.contest.specs.declared.side.Side.the-variants.{A, B}
 use Rattle.contest.specs.declared.level.Level.{Level}
@@ -119,6 +119,14 @@ module _ {S : Type 0} (l : Layer S) (fresh : (n : Counts) (x : Side) → l .belo
       ∙ ap (λ (u : Standing S). run (layer l .play) u (joined ps rest)) (whole-run s (l .opens (s .counts) x) (p .points) (p .winner) e (fresh (s .counts) x) (h .0))
       ∙ pieces-run m (next-opener l m (p .winner)) ps rest (ap (ready l m) (h .0 .at-last)) (h .1)
 
+  -- the server is the one that a cutting says
+  pieces-serve : (o x : Side) (t : S) (b : Start) (ps : List Piece) (rest : List Side) → served l (stands o (b .counts) t) (l .below .winner t) ≡ x → Played l o b ps rest
+      → layer l .play .server (stands o (count-from (b .counts) ps) (stands-at l o t b ps rest)) ≡ serves-at l o x b ps rest
+  pieces-serve o x t b [] [] e h = e
+  pieces-serve o x t b [] (y ∷ ys) e h = ap (served l (stands o (b .counts) (run (l .below) (begun l b) (y ∷ ys)))) (h .at-last)
+  pieces-serve o x t b (p ∷ ps) rest e h =
+      pieces-serve o (next l o b p .opener) (ended l b p) (next l o b p) ps rest (ap (served l (stands o (tallied (b .counts) (p .winner)) (ended l b p))) (h .0 .at-last)) (h .1)
+
   -- the counts stay within the goal
   counts-within : Allowed (l .goal) → (s : Standing S) (ps : List Side) → Within (l .goal) (s .counts) → Taken (layer l .play) s ps → Within (l .goal) (run (layer l .play) s ps .counts)
   counts-within ok s [] w h = w
@@ -166,7 +174,13 @@ parted {S} l ok fair fresh D d o ps taken =
       cuts = cuts;
       only = λ e h. only-one l fresh o (first o) (e .pieces) (c .pieces) (e .rest) (c .rest) (h .all ∙ sym (cuts .all)) (h .played) (cuts .played);
       level = ap (λ (n : Counts). Some (level-of n (winner-by (l .goal) (played (layer l) o ps .counts)))) counts;
+      deeper = λ d. refl;
+      opener = ap (λ (s : Standing S). s .opener) stood;
       below = ap (λ (s : Standing S). s .below) stood;
+      server =
+          ap (λ (s : Standing S). layer l .play .server s) stood
+          ∙ ap (λ (n : Counts). layer l .play .server (stands o n (stands-at l o (begun l (first o)) (first o) (c .pieces) (c .rest)))) (sym (count-won (c .pieces)))
+          ∙ pieces-serve l fresh o (l .below .server (begun l (first o))) (begun l (first o)) (first o) (c .pieces) (c .rest) (ap (served l (stands o none-yet (begun l (first o)))) (fresh none-yet o)) (cuts .played);
       winner = λ x. (λ e. subst (λ (n : Counts). Wins (l .goal) x n) counts (winner-wins (l .goal) (played (layer l) o ps .counts) x e), decides x);
       took-last = λ x e. last-point (layer l .play) (fair .point-winner) (layer l .opening o) ps x (none-wins (l .goal)) taken e;
       not-before = λ qs rs y e is h x m.

@@ -2,6 +2,7 @@
 use mathlib.Core.Path.{_≡_}
 use mathlib.Core.Logic.{_↔_}
 use mathlib.Core.List.{List, [], _∷_, _++_}
+use Prim.Native.Nat.{ℕ, suc}
 use Rattle.contest.specs.Contests.{Play, run, Taken, played}
 use Rattle.contest.specs.Goals.{Counts, Wins, none-yet, tallied}
 use Rattle.contest.specs.Layers.{Layer, Standing, layer, stands, next-opener}
@@ -77,6 +78,12 @@ stands-at l o t b [] [] = t
 stands-at l o t b [] (y ∷ ys) = run (l .below) (begun l b) (y ∷ ys)
 stands-at l o t b (p ∷ ps) rest = stands-at l o (ended l b p) (next l o b p) ps rest
 
+-- who serves: as the rest leaves the one that it opens; with an empty rest x, the opener of the one to come
+abbrev pub serves-at : {S : Type 0} → Layer S → Side → Side → Start → List Piece → List Side → Side
+serves-at l o x b [] [] = x
+serves-at l o x b [] (y ∷ ys) = l .below .server (run (l .below) (begun l b) (y ∷ ys))
+serves-at l o x b (p ∷ ps) rest = serves-at l o (next l o b p .opener) (next l o b p) ps rest
+
 -- the level of a layer: how many pieces each side won, and the winner
 abbrev pub level-of : Counts → Option Side → Level
 level-of n w = record { a = n .a; b = n .b; winner = w }
@@ -89,11 +96,15 @@ pub record Parts {S : Type 0} (l : Layer S) (D : Start → List Side → Type 0)
   pub only : (c : Cutting) → Cuts l o ps c → c ≡ cutting
   -- the level at depth 0 is the number of pieces that each side won, with the winner
   pub level : layer l .play .level s 0 ≡ Some (level-of (won (cutting .pieces)) (layer l .play .winner s))
+  -- a deeper level is that of the contest below, and the opener is the one that it was opened for
+  pub deeper : (d : ℕ) → layer l .play .level s (suc d) ≡ l .below .level (s .below) d
+  pub opener : layer l .play .opener s ≡ o
   -- the contest below stands where the last piece or the rest leaves it
   pub below : s .below ≡ stands-at l o (begun l (first o)) (first o) (cutting .pieces) (cutting .rest)
+  pub server : layer l .play .server s ≡ serves-at l o (l .below .server (begun l (first o))) (first o) (cutting .pieces) (cutting .rest)
   -- a side is winner exactly if its pieces meet target and lead, or the cap
   pub winner : (x : Side) → (layer l .play .winner s ≡ Some x) ↔ Wins (l .goal) x (won (cutting .pieces))
-  -- the winner took the last point, and before it no side's pieces did
+  -- the winner took the last point, and before it no side's pieces met the goal
   pub took-last : (x : Side) → layer l .play .winner s ≡ Some x → (qs : List Side) × (ps ≡ qs ++ (x ∷ []))
   pub not-before : (qs rs : List Side) (y : Side) (c : Cutting) → ps ≡ qs ++ (y ∷ rs) → Cuts l o qs c → (x : Side) → Wins (l .goal) x (won (c .pieces)) → ⊥
   -- and so in each contest below

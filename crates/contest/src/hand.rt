@@ -1,4 +1,5 @@
 ghost use mathlib.Core.Path.{_≡_};
+ghost use Rattle.contest.specs.Contests.{given, answered};
 ghost use Rattle.contest.specs.Hand.{Standing as HandStanding, hand as hand-contest, standing-of};
 ghost use Rattle.contest.specs.Piles.{bottom-of, bottom};
 ghost use Rattle.contest.specs.Plays.{Tells};
@@ -46,13 +47,17 @@ pub impl Contest for Hand as HandContest {
 
     ghost standing = { standing-of };
 
-    fn open(&mut self, opener: Side) {
+    fn open(&mut self, opener: Side)
+        ensures own { λ _. ⌜ standing-of (now (self .exit)) ≡ hand-contest .opening opener ⌝ }
+    {
         self.opener = opener;
         self.server = opener;
         self.winner = None;
     }
 
-    fn point(&mut self, side: Side) -> Result<(), ContestFault> {
+    fn point(&mut self, side: Side) -> Result<(), ContestFault>
+        ensures own { λ r. ⌜ (standing-of (now (self .exit)) ≡ given hand-contest (standing-of (now (self .entry))) side) × (r ≡ answered (hand-contest .play .winner (standing-of (now (self .entry))))) ⌝ }
+    {
         if self.winner.is_some() {
             return Err(ContestFault::Decided);
         }
@@ -64,19 +69,27 @@ pub impl Contest for Hand as HandContest {
         Ok(())
     }
 
-    fn winner(&self) -> Option<Side> {
+    fn winner(&self) -> Option<Side>
+        ensures { λ r. ⌜ r ≡ hand-contest .play .winner (standing-of (now (self .entry))) ⌝ }
+    {
         self.winner
     }
 
-    fn opener(&self) -> Side {
+    fn opener(&self) -> Side
+        ensures { λ r. ⌜ r ≡ hand-contest .play .opener (standing-of (now (self .entry))) ⌝ }
+    {
         self.opener
     }
 
-    fn server(&self) -> Side {
+    fn server(&self) -> Side
+        ensures { λ r. ⌜ r ≡ hand-contest .play .server (standing-of (now (self .entry))) ⌝ }
+    {
         self.server
     }
 
-    fn level(&self, _depth: u16) -> Option<Level> {
+    fn level(&self, depth: u16) -> Option<Level>
+        ensures { λ r. ⌜ r ≡ hand-contest .play .level (standing-of (now (self .entry))) depth ⌝ }
+    {
         None
     }
 }

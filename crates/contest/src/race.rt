@@ -1,9 +1,10 @@
 ghost use mathlib.Core.Path.{_≡_};
+ghost use Rattle.contest.specs.Contests.{given, answered};
 ghost use Rattle.contest.specs.Built.{race-pile, race-standing, New, Reopened, Passed-down, Counted};
 ghost use Rattle.contest.specs.Faults.{goal-fault};
 ghost use Rattle.contest.specs.Goals.{goal, winner-by};
 ghost use Rattle.contest.specs.Layers.{next-opener};
-ghost use Rattle.contest.specs.Piles.{race-of, raced, race-layer};
+ghost use Rattle.contest.specs.Piles.{contest-of, race-of, raced, race-layer};
 ghost use Rattle.contest.specs.Plays.{Plays};
 ghost use Rattle.contest.specs.Tally.{goal-of, counts-of};
 ghost use Rattle.std.specs.declared.option.Option.the-variants.{None};
@@ -105,13 +106,17 @@ pub impl<C: Contest, P: Service> Contest for Race<C, P> as RaceContest {
 
     ghost standing = { race-standing (C·Contest .standing) };
 
-    fn open(&mut self, opener: Side) {
+    fn open(&mut self, opener: Side)
+        ensures own { λ _. ⌜ (race-pile (C·Contest .pile) (P·Service .rule) (now (self .exit)) ≡ race-pile (C·Contest .pile) (P·Service .rule) (now (self .entry))) × (race-standing (C·Contest .standing) (now (self .exit)) ≡ contest-of (race-pile (C·Contest .pile) (P·Service .rule) (now (self .entry))) .opening opener) ⌝ }
+    {
         self.tally.clear();
         self.opener = opener;
         self.below.open(opener);
     }
 
-    fn point(&mut self, side: Side) -> Result<(), ContestFault> {
+    fn point(&mut self, side: Side) -> Result<(), ContestFault>
+        ensures own { λ r. ⌜ (race-pile (C·Contest .pile) (P·Service .rule) (now (self .exit)) ≡ race-pile (C·Contest .pile) (P·Service .rule) (now (self .entry))) × (race-standing (C·Contest .standing) (now (self .exit)) ≡ given (contest-of (race-pile (C·Contest .pile) (P·Service .rule) (now (self .entry)))) (race-standing (C·Contest .standing) (now (self .entry))) side) × (r ≡ answered (contest-of (race-pile (C·Contest .pile) (P·Service .rule) (now (self .entry))) .play .winner (race-standing (C·Contest .standing) (now (self .entry))))) ⌝ }
+    {
         if self.tally.winner().is_some() {
             return Err(ContestFault::Decided);
         }
@@ -121,22 +126,30 @@ pub impl<C: Contest, P: Service> Contest for Race<C, P> as RaceContest {
         Ok(())
     }
 
-    fn winner(&self) -> Option<Side> {
+    fn winner(&self) -> Option<Side>
+        ensures { λ r. ⌜ r ≡ contest-of (race-pile (C·Contest .pile) (P·Service .rule) (now (self .entry))) .play .winner (race-standing (C·Contest .standing) (now (self .entry))) ⌝ }
+    {
         self.tally.winner()
     }
 
-    fn opener(&self) -> Side {
+    fn opener(&self) -> Side
+        ensures { λ r. ⌜ r ≡ contest-of (race-pile (C·Contest .pile) (P·Service .rule) (now (self .entry))) .play .opener (race-standing (C·Contest .standing) (now (self .entry))) ⌝ }
+    {
         self.opener
     }
 
-    fn server(&self) -> Side {
+    fn server(&self) -> Side
+        ensures { λ r. ⌜ r ≡ contest-of (race-pile (C·Contest .pile) (P·Service .rule) (now (self .entry))) .play .server (race-standing (C·Contest .standing) (now (self .entry))) ⌝ }
+    {
         match self.below.winner() {
             None => self.below.server(),
             Some(winner) => self.next_opener(winner),
         }
     }
 
-    fn level(&self, depth: u16) -> Option<Level> {
+    fn level(&self, depth: u16) -> Option<Level>
+        ensures { λ r. ⌜ r ≡ contest-of (race-pile (C·Contest .pile) (P·Service .rule) (now (self .entry))) .play .level (race-standing (C·Contest .standing) (now (self .entry))) depth ⌝ }
+    {
         if depth == 0 {
             return Some(self.tally.level());
         }

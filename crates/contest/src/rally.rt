@@ -1,4 +1,5 @@
 ghost use mathlib.Core.Path.{_≡_};
+ghost use Rattle.contest.specs.Contests.{given, answered};
 ghost use Rattle.contest.specs.Piles.{bottom-of, bottom};
 ghost use Rattle.contest.specs.Plays.{Tells};
 ghost use Rattle.contest.specs.Rally.{Standing as RallyStanding, rally as rally-contest, standing-of};
@@ -43,12 +44,16 @@ pub impl Contest for Rally as RallyContest {
 
     ghost standing = { standing-of };
 
-    fn open(&mut self, opener: Side) {
+    fn open(&mut self, opener: Side)
+        ensures own { λ _. ⌜ standing-of (now (self .exit)) ≡ rally-contest .opening opener ⌝ }
+    {
         self.opener = opener;
         self.winner = None;
     }
 
-    fn point(&mut self, side: Side) -> Result<(), ContestFault> {
+    fn point(&mut self, side: Side) -> Result<(), ContestFault>
+        ensures own { λ r. ⌜ (standing-of (now (self .exit)) ≡ given rally-contest (standing-of (now (self .entry))) side) × (r ≡ answered (rally-contest .play .winner (standing-of (now (self .entry))))) ⌝ }
+    {
         if self.winner.is_some() {
             return Err(ContestFault::Decided);
         }
@@ -56,19 +61,27 @@ pub impl Contest for Rally as RallyContest {
         Ok(())
     }
 
-    fn winner(&self) -> Option<Side> {
+    fn winner(&self) -> Option<Side>
+        ensures { λ r. ⌜ r ≡ rally-contest .play .winner (standing-of (now (self .entry))) ⌝ }
+    {
         self.winner
     }
 
-    fn opener(&self) -> Side {
+    fn opener(&self) -> Side
+        ensures { λ r. ⌜ r ≡ rally-contest .play .opener (standing-of (now (self .entry))) ⌝ }
+    {
         self.opener
     }
 
-    fn server(&self) -> Side {
+    fn server(&self) -> Side
+        ensures { λ r. ⌜ r ≡ rally-contest .play .server (standing-of (now (self .entry))) ⌝ }
+    {
         self.opener
     }
 
-    fn level(&self, _depth: u16) -> Option<Level> {
+    fn level(&self, depth: u16) -> Option<Level>
+        ensures { λ r. ⌜ r ≡ rally-contest .play .level (standing-of (now (self .entry))) depth ⌝ }
+    {
         None
     }
 }

@@ -9,7 +9,7 @@ use Rattle.contest.specs.Service.{pairs, to-winner, twos}
 use Rattle.contest.specs.declared.level.Level.{Level}
 use Rattle.contest.specs.declared.side.Side.{Side}
 use Rattle.contest.specs.declared.side.Side.the-variants.{A, B}
-use Rattle.formats.specs.Table.{R, Rallies, rally, hand, game, set}
+use Rattle.formats.specs.Table.{R, Rallies, rally, hand, game, set, tennis3}
 use Rattle.std.specs.declared.option.Option.{Option}
 use Rattle.std.specs.declared.option.Option.the-variants.{Some, None}
 
@@ -24,12 +24,15 @@ pub record Case : Type 0 where
   pub answer : Answer
   pub rule-book : Answer
 
--- the pile p, opened for A and given the points, is at a-b with the winner w
-abbrev pub at : {h : Shape} → Pile h → List Side → ℕ → ℕ → Option Side → Case
-at p ps a b w = record {
-  answer = stands (contest-of p .play .level (played (contest-of p) A ps) 0);
+-- the pile p, opened for A and given the points, is at a-b with the winner w, at a depth and at the top
+abbrev pub at-depth : {h : Shape} → Pile h → List Side → ℕ → ℕ → ℕ → Option Side → Case
+at-depth p ps d a b w = record {
+  answer = stands (contest-of p .play .level (played (contest-of p) A ps) d);
   rule-book = stands (Some (record { a = a; b = b; winner = w }));
 }
+
+abbrev pub at : {h : Shape} → Pile h → List Side → ℕ → ℕ → Option Side → Case
+at p ps a b w = at-depth p ps 0 a b w
 
 -- the side x serves next
 abbrev pub served-by : {h : Shape} → Pile h → List Side → Side → Case
@@ -99,6 +102,14 @@ cases =
     ∷ served-by table-game (each 9 ++ (A ∷ [])) B
     ∷ served-by table-game (each 10) A
     ∷ served-by table-game (each 10 ++ (A ∷ [])) B
+    -- carry: a set of seven games, or of six all and a tie-break, was opened for A, so B opens the next
+    ∷ served-by tennis3 (games-each 1 ++ times 5 (love A)) B
+    ∷ served-by tennis3 (games-each 6 ++ times 7 (A ∷ [])) B
+    -- and there the won game or tie-break, the won set and the match stand at depths 2, 1 and 0
+    ∷ at-depth tennis3 (games-each 1 ++ times 5 (love A)) 2 4 0 (Some A)
+    ∷ at-depth tennis3 (games-each 6 ++ times 7 (A ∷ [])) 2 7 0 (Some A)
+    ∷ at-depth tennis3 (games-each 6 ++ times 7 (A ∷ [])) 1 7 6 (Some A)
+    ∷ at-depth tennis3 (games-each 6 ++ times 7 (A ∷ [])) 0 1 0 None
     -- the hand: of the points B, A, A only the third wins it, for A
     ∷ won-by hand (B ∷ []) None
     ∷ won-by hand (B ∷ A ∷ []) None

@@ -1,150 +1,147 @@
-// Replays matches from a table on the standard input, a line each: the format's name, the opener, and the points, as in
+// Plays scripts of an umpire's calls from the standard input, and prints the answer to each call.
 //
-//     tennis3 A ABABAABB
+// A script begins with a line `match FORMAT NUMBER OPENER`, as `match tennis3 7 A`; behind it may stand how many places the log has.
+// Each line that follows is a call:
 //
-// For each it prints how many points were taken before the end, the winner, the server of every point that was taken, and
-// the levels from the outside in, with `/` and the winner behind a level that has one.
-use contest::contest::Contest;
-use contest::hand::HandContest;
-use contest::race::RaceContest;
-use contest::rally::RallyContest;
-use contest::service::rules::CarryService;
-use contest::service::rules::PairsService;
-use contest::service::rules::StayService;
-use contest::service::rules::TurnService;
-use contest::service::rules::TwosService;
-use contest::service::rules::WinnerService;
+//     rally              calls a rally
+//     point A            settles the rally that was called as a point; `point A 7 2` settles rally 2 of match 7
+//     let                settles it as a let; `let 7 2` as above
+//     winner · server · level DEPTH · totals      the questions
+//
+// A refused call prints `refused` and its number. A line that begins with `#` is copied, and an empty one passed over.
+mod script;
+
 use contest::side::Side;
-use contest::switch::layer::SwitchContest;
+use format_matches::play_badminton;
+use format_matches::play_game;
+use format_matches::play_sideout;
+use format_matches::play_table5;
+use format_matches::play_tennis3;
+use format_matches::play_tennis5;
+use format_matches::play_tennismt;
+use format_matches::play_volleyball;
 use formats::format::Format;
-use formats::piles::badminton;
-use formats::piles::game;
-use formats::piles::sideout;
-use formats::piles::table5;
-use formats::piles::tennis3;
-use formats::piles::tennis5;
-use formats::piles::tennismt;
-use formats::piles::volleyball;
-use std::alloc::AllocError;
-use std::alloc::Global;
+use rally_log::entry::Entry;
+use roll::Roll;
+use roll::records::MOST;
+use script::Script;
 use std::error::AnyError;
+use std::io;
+use umpire::calls::Answer;
+use umpire::calls::Call;
+use umpire::calls::Totals;
 
-// A line of the table.
-#[derive(Drop)]
-struct Line {
-    format: Format,
-    opener: Side,
-    points: Vec<Side>,
-}
-
-fn side_of(letter: char) -> Option<Side> {
-    match letter {
-        'A' => Some(Side::A),
-        'B' => Some(Side::B),
-        _ => None,
-    }
-}
-
-fn letter(side: Side) -> char {
+fn side_text(side: Option<Side>) -> &'static str {
     match side {
-        Side::A => 'A',
-        Side::B => 'B',
+        Some(Side::A) => "A",
+        Some(Side::B) => "B",
+        None => "nobody",
     }
 }
 
-fn side_word(text: &str) -> Option<Side> {
-    let mut letters = text.chars();
-    match (letters.next(), letters.next()) {
-        (Some(first), None) => side_of(first),
-        _ => None,
+fn print_totals(rt: &LibcRuntime, totals: Totals) -> io::Result<()> {
+    let called = totals.called;
+    let a = totals.a;
+    let b = totals.b;
+    let lets = totals.lets;
+    match totals.in_play {
+        Some(open) => println!(rt, "called {called} points {a}-{b} lets {lets} open {open}"),
+        None => println!(rt, "called {called} points {a}-{b} lets {lets}"),
     }
 }
 
-fn points_of(heap: Global, text: &str) -> Result<Vec<Side>, AnyError> {
-    let mut points = Vec::new(heap);
-    for c in text.chars() {
-        let side = side_of(c).ok_or("a point is neither A nor B")?;
-        points.push(side)?;
-    }
-    Ok(points)
-}
-
-fn parse_line(heap: Global, text: &str) -> Result<Line, AnyError> {
-    let (name, rest) = text.split_once(' ').ok_or("a line has no opener")?;
-    let (opener, points) = rest.split_once(' ').ok_or("a line has no points")?;
-    Ok(Line {
-        format: Format::from_name(name).ok_or("there is no such format")?,
-        opener: side_word(opener).ok_or("an opener is neither A nor B")?,
-        points: points_of(heap, points)?,
-    })
-}
-
-// The servers of the points that the pile takes, in turn, up to the first that it refuses.
-fn servers<C: Contest>(heap: Global, pile: &mut C, points: &[Side]) -> Result<String, AllocError> {
-    let mut servers = String::new(heap);
-    for side in points {
-        let server = pile.server();
-        if pile.point(*side).is_err() {
-            break;
+fn print_answer(rt: &LibcRuntime, answer: Answer) -> io::Result<()> {
+    match answer {
+        Answer::Called(rally) => {
+            let match_number = rally.match_number;
+            let number = rally.number;
+            println!(rt, "rally {number} of match {match_number}")
         }
-        servers.push(letter(server))?;
+        Answer::Settled => println!(rt, "settled"),
+        Answer::Refused(fault) => {
+            let number = fault.number();
+            println!(rt, "refused {number}")
+        }
+        Answer::Winner(winner) => {
+            let side = side_text(winner);
+            println!(rt, "winner {side}")
+        }
+        Answer::Server(server) => {
+            let side = side_text(Some(server));
+            println!(rt, "server {side}")
+        }
+        Answer::Level(Some(level)) => {
+            let a = level.a;
+            let b = level.b;
+            let side = side_text(level.winner);
+            println!(rt, "level {a}-{b} winner {side}")
+        }
+        Answer::Level(None) => println!(rt, "level none"),
+        Answer::Totals(totals) => print_totals(rt, totals),
     }
-    Ok(servers)
 }
 
-fn levels<C: Contest>(heap: Global, pile: &C) -> Result<String, AllocError> {
-    let mut text = String::new(heap);
-    for depth in 0..16u16 {
-        let Some(level) = pile.level(depth) else {
-            break;
-        };
-        let a = level.a;
-        let b = level.b;
-        text.push_str(format!(heap, " {a}-{b}")?.as_str())?;
-        if let Some(winner) = level.winner {
-            text.push('/')?;
-            text.push(letter(winner))?;
-        }
+// Plays the calls in the format of the script.
+fn play_script(script: &Script, log: &mut Roll<Entry>, answers: &mut Roll<Answer>) {
+    let number = script.number;
+    let opener = script.opener;
+    let calls: &[Call] = &script.calls;
+    match script.format {
+        Format::Game => drop(play_game(number, opener, log, calls, answers)),
+        Format::Tennis3 => drop(play_tennis3(number, opener, log, calls, answers)),
+        Format::Tennis5 => drop(play_tennis5(number, opener, log, calls, answers)),
+        Format::TennisMt => drop(play_tennismt(number, opener, log, calls, answers)),
+        Format::Badminton => drop(play_badminton(number, opener, log, calls, answers)),
+        Format::Volleyball => drop(play_volleyball(number, opener, log, calls, answers)),
+        Format::Table5 => drop(play_table5(number, opener, log, calls, answers)),
+        Format::SideOut => drop(play_sideout(number, opener, log, calls, answers)),
     }
-    Ok(text)
 }
 
-fn replay<C: Contest + Drop>(rt: &LibcRuntime, mut pile: C, line: &Line) -> Result<(), AnyError> {
-    pile.open(line.opener);
-    let servers = servers(rt.alloc(), &mut pile, &line.points)?;
-    let name = line.format.name();
-    let opener = letter(line.opener);
-    let taken = servers.len();
-    match pile.winner() {
-        Some(side) => {
-            let winner = letter(side);
-            println!(rt, "{name} {opener} taken {taken} winner {winner}")?;
+fn finish(rt: &LibcRuntime, script: &Script) -> Result<(), AnyError> {
+    let heap = rt.alloc();
+    let places = script.places.min(MOST);
+    let mut entries = vec![in heap; Entry::Let; places]?;
+    let mut log = Roll::new(&mut entries);
+    let mut told = vec![in heap; Answer::Settled; script.calls.len()]?;
+    let mut answers = Roll::new(&mut told);
+    play_script(script, &mut log, &mut answers);
+    for index in 0..answers.len() {
+        if let Some(answer) = answers.get(index) {
+            print_answer(rt, answer)?;
         }
-        None => println!(rt, "{name} {opener} taken {taken} winner nobody")?,
     }
-    println!(rt, "servers {servers}")?;
-    let levels = levels(rt.alloc(), &pile)?;
-    println!(rt, "levels{levels}")?;
     Ok(())
 }
 
-fn replay_line(rt: &LibcRuntime, line: &Line) -> Result<(), AnyError> {
-    match line.format {
-        Format::Game => replay(rt, game(), line),
-        Format::Tennis3 => replay(rt, tennis3(), line),
-        Format::Tennis5 => replay(rt, tennis5(), line),
-        Format::TennisMt => replay(rt, tennismt(), line),
-        Format::Badminton => replay(rt, badminton(), line),
-        Format::Volleyball => replay(rt, volleyball(), line),
-        Format::Table5 => replay(rt, table5(), line),
-        Format::SideOut => replay(rt, sideout(), line),
-    }
-}
-
 fn run(rt: &LibcRuntime) -> Result<(), AnyError> {
-    for text in rt.lines(rt.alloc()) {
-        let text = text?;
-        replay_line(rt, &parse_line(rt.alloc(), text.as_str())?)?;
+    let mut current: Option<Script> = None;
+    for line in rt.lines(rt.alloc()) {
+        let line = line?;
+        let text = line.as_str();
+        if text.is_empty() {
+            continue;
+        }
+        if text.starts_with("match") || text.starts_with("#") {
+            if let Some(script) = current.take() {
+                finish(rt, &script)?;
+            }
+            println!(rt, "{text}")?;
+            if text.starts_with("match") {
+                current = Script::begin(Vec::new(rt.alloc()), text, MOST);
+            }
+            continue;
+        }
+        let Some(script) = &mut current else {
+            return Err("a call stands before its match".into());
+        };
+        let Some(call) = script.call(text) else {
+            return Err("a line is no call".into());
+        };
+        script.calls.push(call)?;
+    }
+    if let Some(script) = current.take() {
+        finish(rt, &script)?;
     }
     Ok(())
 }

@@ -1,9 +1,10 @@
 ghost use mathlib.Core.Path.{_≡_};
+ghost use Rattle.contest.specs.Contests.{given, answered};
 ghost use Rattle.contest.specs.Built.{switch-pile, switch-standing, New, Reopened, Opened-below, Passed-down, Counted};
 ghost use Rattle.contest.specs.Faults.{switch-fault};
 ghost use Rattle.contest.specs.Goals.{goal, winner-by};
 ghost use Rattle.contest.specs.Layers.{next-opener};
-ghost use Rattle.contest.specs.Piles.{switch-of, switched, switch-layer};
+ghost use Rattle.contest.specs.Piles.{contest-of, switch-of, switched, switch-layer};
 ghost use Rattle.contest.specs.Plays.{Plays};
 ghost use Rattle.contest.specs.Tally.{goal-of, counts-of};
 ghost use Rattle.std.specs.declared.option.Option.the-variants.{None};
@@ -152,13 +153,17 @@ pub impl<C: Contest, D: Contest, P: Service> Contest for Switch<C, D, P> as Swit
 
     ghost standing = { switch-standing (C·Contest .standing) (D·Contest .standing) };
 
-    fn open(&mut self, opener: Side) {
+    fn open(&mut self, opener: Side)
+        ensures own { λ _. ⌜ (switch-pile (C·Contest .pile) (D·Contest .pile) (P·Service .rule) (now (self .exit)) ≡ switch-pile (C·Contest .pile) (D·Contest .pile) (P·Service .rule) (now (self .entry))) × (switch-standing (C·Contest .standing) (D·Contest .standing) (now (self .exit)) ≡ contest-of (switch-pile (C·Contest .pile) (D·Contest .pile) (P·Service .rule) (now (self .entry))) .opening opener) ⌝ }
+    {
         self.tally.clear();
         self.opener = opener;
         self.open_below(opener);
     }
 
-    fn point(&mut self, side: Side) -> Result<(), ContestFault> {
+    fn point(&mut self, side: Side) -> Result<(), ContestFault>
+        ensures own { λ r. ⌜ (switch-pile (C·Contest .pile) (D·Contest .pile) (P·Service .rule) (now (self .exit)) ≡ switch-pile (C·Contest .pile) (D·Contest .pile) (P·Service .rule) (now (self .entry))) × (switch-standing (C·Contest .standing) (D·Contest .standing) (now (self .exit)) ≡ given (contest-of (switch-pile (C·Contest .pile) (D·Contest .pile) (P·Service .rule) (now (self .entry)))) (switch-standing (C·Contest .standing) (D·Contest .standing) (now (self .entry))) side) × (r ≡ answered (contest-of (switch-pile (C·Contest .pile) (D·Contest .pile) (P·Service .rule) (now (self .entry))) .play .winner (switch-standing (C·Contest .standing) (D·Contest .standing) (now (self .entry))))) ⌝ }
+    {
         if self.tally.winner().is_some() {
             return Err(ContestFault::Decided);
         }
@@ -168,22 +173,30 @@ pub impl<C: Contest, D: Contest, P: Service> Contest for Switch<C, D, P> as Swit
         Ok(())
     }
 
-    fn winner(&self) -> Option<Side> {
+    fn winner(&self) -> Option<Side>
+        ensures { λ r. ⌜ r ≡ contest-of (switch-pile (C·Contest .pile) (D·Contest .pile) (P·Service .rule) (now (self .entry))) .play .winner (switch-standing (C·Contest .standing) (D·Contest .standing) (now (self .entry))) ⌝ }
+    {
         self.tally.winner()
     }
 
-    fn opener(&self) -> Side {
+    fn opener(&self) -> Side
+        ensures { λ r. ⌜ r ≡ contest-of (switch-pile (C·Contest .pile) (D·Contest .pile) (P·Service .rule) (now (self .entry))) .play .opener (switch-standing (C·Contest .standing) (D·Contest .standing) (now (self .entry))) ⌝ }
+    {
         self.opener
     }
 
-    fn server(&self) -> Side {
+    fn server(&self) -> Side
+        ensures { λ r. ⌜ r ≡ contest-of (switch-pile (C·Contest .pile) (D·Contest .pile) (P·Service .rule) (now (self .entry))) .play .server (switch-standing (C·Contest .standing) (D·Contest .standing) (now (self .entry))) ⌝ }
+    {
         match self.winner_below() {
             None => self.server_below(),
             Some(winner) => self.next_opener(winner),
         }
     }
 
-    fn level(&self, depth: u16) -> Option<Level> {
+    fn level(&self, depth: u16) -> Option<Level>
+        ensures { λ r. ⌜ r ≡ contest-of (switch-pile (C·Contest .pile) (D·Contest .pile) (P·Service .rule) (now (self .entry))) .play .level (switch-standing (C·Contest .standing) (D·Contest .standing) (now (self .entry))) depth ⌝ }
+    {
         if depth == 0 {
             return Some(self.tally.level());
         }
