@@ -445,7 +445,7 @@ mod tests {
         assert_eq!(board(&m), [(1, 1, None), (10, 9, None)]);
         give(&mut m, "A");
         assert_eq!(board(&m), [(2, 1, Some(A)), (11, 9, Some(A))]);
-        // Point 1 was B's to serve, 2 and 3 were A's, 4 and 5 B's, and so on:
+        // The first point was B's to serve, the next two A's, the two after them B's, and so on:
         // 18 and 19 were A's, 20 and 21 are B's. Twenty have been played.
         assert_eq!(m.server(), B);
         assert!(!m.point(A));
