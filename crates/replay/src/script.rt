@@ -1,4 +1,7 @@
-// The lines of a script.
+// The lines of a script. What a line's words are is not stated, since no contract of the standard library says what a word of a
+// text holds; what a call leaves of the script is.
+ghost use mathlib.Core.Path.{_≡_};
+ghost use Rattle.replay.specs.Scripts.{Begun, Kept};
 use contest::side::Side;
 use formats::format::Format;
 use umpire::calls::Call;
@@ -29,7 +32,9 @@ fn side_word(word: &str) -> Option<Side> {
 
 impl Script {
     // The match of a line `match FORMAT NUMBER OPENER`, with the number of the log's places behind it if that is not `most`.
-    pub fn begin(calls: Vec<Call>, line: &str, most: usize) -> Option<Script> {
+    pub fn begin(calls: Vec<Call>, line: &str, most: usize) -> Option<Script>
+        ensures { λ r. ⌜ Begun calls r ⌝ }
+    {
         let mut words = line.split_whitespace();
         if words.next()? != "match" {
             return None;
@@ -53,7 +58,9 @@ impl Script {
     }
 
     // The call of any other line.
-    pub fn call(&mut self, line: &str) -> Option<Call> {
+    pub fn call(&mut self, line: &str) -> Option<Call>
+        ensures { λ _. ⌜ Kept (now (self .entry)) (now (self .exit)) ⌝ }
+    {
         let mut words = line.split_whitespace();
         match words.next()? {
             "rally" => {
@@ -77,7 +84,9 @@ impl Script {
     }
 
     // The rally of two numbers, the match's and its own, or else the last that a line called.
-    fn rally_meant(&mut self, first: Option<&str>, second: Option<&str>) -> Option<RallyNumbers> {
+    fn rally_meant(&mut self, first: Option<&str>, second: Option<&str>) -> Option<RallyNumbers>
+        ensures { λ _. ⌜ Kept (now (self .entry)) (now (self .exit)) ⌝ }
+    {
         if let Some(word) = first {
             return Some(RallyNumbers {
                 match_number: word.parse::<u16>().ok()?,
