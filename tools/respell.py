@@ -33,10 +33,6 @@ def read(path):
         return f.read()
 
 
-def is_goal(line, name):
-    return re.search(r"\bgoal\." + re.escape(name) + r"(?![^\s])", line) is not None
-
-
 def own_names(root):
     """The names that the repository itself defines, but for answers to goals."""
     found = {}
@@ -46,11 +42,11 @@ def own_names(root):
             if line.lstrip().startswith("--"):
                 continue
             m = DEFINED.match(line)
-            if m and not is_goal(line, m.group(1)):
+            if m and "goal." not in line:
                 if word.fullmatch(m.group(1)):
                     found.setdefault(m.group(1), f"{os.path.relpath(path, root)}:{number}")
             m = re.match(r"^\s*pub ((?:[a-z][\w'-]* )+):", line)
-            if m:
+            if m and "goal." not in line:
                 for name in m.group(1).split():
                     found.setdefault(name, f"{os.path.relpath(path, root)}:{number}")
     return found

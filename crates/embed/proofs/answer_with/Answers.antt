@@ -3,8 +3,8 @@ use Rattle.std.proofs.Common.{sym}
 use Rattle.embed.proofs.Places.{with_many, untouched}
 use Rattle.embed.proofs.answer_with.Goals as goal
 
-pub returns_else_is_short : goal.returns_else_is_short
-returns_else_is_short g c =
+pub returns-else-is-short : goal.returns-else-is-short
+returns-else-is-short g c =
     let first = c.score-with-result in
     record {
       result = first.result;
@@ -12,7 +12,7 @@ returns_else_is_short g c =
       answer_is = c.tell.ensures;
     }
 
-pub returns_then_is_short : goal.returns_then_is_short
-returns_then_is_short g c =
+pub returns-then-is-short : goal.returns-then-is-short
+returns-then-is-short g c =
     let first = c.score-with-result in
     untouched g.row.ENTRIES g.row.CLOSINGS c.args.log.now c.args.sheet.now first.new.sheet first.result (sym c.if-is-short.ensures) first.ensures

@@ -4,8 +4,8 @@ use Rattle.sheet.specs.Scores.{ScoresAs}
 use Rattle.sheet.specs.declared.fault.ScoreFault.TheVariants.{Code}
 use Rattle.sheet.proofs.score.score.Goals as goal
 
-pub returns_in_some : goal.returns_in_some
-returns_in_some g c =
+pub returns-in-Some : goal.returns-in-Some
+returns-in-Some g c =
     let r = c.args.closings.now in
     let q = c.score-in.new.closings in
     record {
@@ -14,8 +14,8 @@ returns_in_some g c =
       same = c.score-in.ensures.same;
     }
 
-pub returns_in_none : goal.returns_in_none
-returns_in_none g c =
+pub returns-in-None : goal.returns-in-None
+returns-in-None g c =
     let r = c.args.closings.now in
     record {
       scores = subst (λ f. ScoresAs (g.C.Contest.pile c.args.pile) c.args.number f c.args.opener (entries c.args.log.now) (entries r) (spare r) c.args.sheet.now (Err Code) (entries r) (spare r) c.args.sheet.now)

@@ -6,8 +6,8 @@ use Rattle.sheet.specs.Scores.{answer_to}
 use Rattle.sheet.proofs.Taking.{took_all}
 use Rattle.sheet.proofs.score.score_in.Goals as goal
 
-pub returns_in_ok : goal.returns_in_ok
-returns_in_ok g c =
+pub returns-in-Ok : goal.returns-in-Ok
+returns-in-Ok g c =
     let p = g.C.Contest.pile c.args.pile in
     let h = c.args.heading in
     let es = entries c.args.log.now in

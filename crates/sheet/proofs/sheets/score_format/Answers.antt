@@ -24,8 +24,8 @@ with_pile : {h : Shape} (heading : Heading) (es : List Entry) (places : List Clo
     → ScoredWith heading es places bytes r held left after h p → ScoredWith heading es places bytes r held left after h q
 with_pile {h} heading es places bytes r held left after p q e k = subst (λ v. ScoredWith heading es places bytes r held left after h v) e k
 
-pub returns_in_game : goal.returns_in_game
-returns_in_game c =
+pub returns-in-Game : goal.returns-in-Game
+returns-in-Game c =
     let before = c.args.closings.now in
     let q = c.score-in.new.closings in
     let places = entries before ++ spare before in
@@ -35,8 +35,8 @@ returns_in_game c =
       same = c.score-in.ensures.same;
     }
 
-pub returns_in_tennis3 : goal.returns_in_tennis3
-returns_in_tennis3 c =
+pub returns-in-Tennis3 : goal.returns-in-Tennis3
+returns-in-Tennis3 c =
     let before = c.args.closings.now in
     let q = c.score-in-in-Tennis3.new.closings in
     let places = entries before ++ spare before in
@@ -46,8 +46,8 @@ returns_in_tennis3 c =
       same = c.score-in-in-Tennis3.ensures.same;
     }
 
-pub returns_in_tennis5 : goal.returns_in_tennis5
-returns_in_tennis5 c =
+pub returns-in-Tennis5 : goal.returns-in-Tennis5
+returns-in-Tennis5 c =
     let before = c.args.closings.now in
     let q = c.score-in-in-Tennis5.new.closings in
     let places = entries before ++ spare before in
@@ -57,8 +57,8 @@ returns_in_tennis5 c =
       same = c.score-in-in-Tennis5.ensures.same;
     }
 
-pub returns_in_tennismt : goal.returns_in_tennismt
-returns_in_tennismt c =
+pub returns-in-TennisMt : goal.returns-in-TennisMt
+returns-in-TennisMt c =
     let before = c.args.closings.now in
     let q = c.score-in-in-TennisMt.new.closings in
     let places = entries before ++ spare before in
@@ -68,8 +68,8 @@ returns_in_tennismt c =
       same = c.score-in-in-TennisMt.ensures.same;
     }
 
-pub returns_in_badminton : goal.returns_in_badminton
-returns_in_badminton c =
+pub returns-in-Badminton : goal.returns-in-Badminton
+returns-in-Badminton c =
     let before = c.args.closings.now in
     let q = c.score-in-in-Badminton.new.closings in
     let places = entries before ++ spare before in
@@ -79,8 +79,8 @@ returns_in_badminton c =
       same = c.score-in-in-Badminton.ensures.same;
     }
 
-pub returns_in_volleyball : goal.returns_in_volleyball
-returns_in_volleyball c =
+pub returns-in-Volleyball : goal.returns-in-Volleyball
+returns-in-Volleyball c =
     let before = c.args.closings.now in
     let q = c.score-in-in-Volleyball.new.closings in
     let places = entries before ++ spare before in
@@ -90,8 +90,8 @@ returns_in_volleyball c =
       same = c.score-in-in-Volleyball.ensures.same;
     }
 
-pub returns_in_table5 : goal.returns_in_table5
-returns_in_table5 c =
+pub returns-in-Table5 : goal.returns-in-Table5
+returns-in-Table5 c =
     let before = c.args.closings.now in
     let q = c.score-in-in-Table5.new.closings in
     let places = entries before ++ spare before in
@@ -101,8 +101,8 @@ returns_in_table5 c =
       same = c.score-in-in-Table5.ensures.same;
     }
 
-pub returns_in_sideout : goal.returns_in_sideout
-returns_in_sideout c =
+pub returns-in-SideOut : goal.returns-in-SideOut
+returns-in-SideOut c =
     let before = c.args.closings.now in
     let q = c.score-in-in-SideOut.new.closings in
     let places = entries before ++ spare before in

@@ -5,8 +5,8 @@ use Rattle.roll.specs.Rolls.{entries, spare, most}
 use Rattle.sheet.proofs.Fitting.{fits}
 use Rattle.sheet.proofs.sheets.score_log.Goals as goal
 
-pub returns_in_ok_score_read : goal.returns_in_ok_score_read
-returns_in_ok_score_read c =
+pub returns-in-Ok-score-read : goal.returns-in-Ok-score-read
+returns-in-Ok-score-read c =
     let scored = c.in-Ok-score-read.ensures in
     let roll = c.read.new.roll in
     let new = c.new-log.ensures in
@@ -26,8 +26,8 @@ returns_in_ok_score_read c =
       };
     }
 
-pub returns_in_err_score_read : goal.returns_in_err_score_read
-returns_in_err_score_read c =
+pub returns-in-Err-score-read : goal.returns-in-Err-score-read
+returns-in-Err-score-read c =
     let roll = c.read.new.roll in
     let new = c.new-log.ensures in
     let lent = c.args.entries.now in
@@ -46,8 +46,8 @@ returns_in_err_score_read c =
       };
     }
 
-pub returns_in_err : goal.returns_in_err
-returns_in_err c =
+pub returns-in-Err : goal.returns-in-Err
+returns-in-Err c =
     let roll = c.read.new.roll in
     let new = c.new-log.ensures in
     let lent = c.args.entries.now in

@@ -8,16 +8,16 @@ use Rattle.sheet.specs.Text.{closing_line}
 use Rattle.sheet.proofs.Sinking.{none, then}
 use Rattle.sheet.proofs.text.put_closings.Goals as goal
 
-pub loop_closing_init : goal.loop_closing_init
-loop_closing_init g c = none
+pub loop-closing-init : goal.loop-closing-init
+loop-closing-init g c = none
 
-pub loop_closing_smaller : goal.loop_closing_smaller
-loop_closing_smaller g c =
+pub loop-closing-smaller : goal.loop-closing-smaller
+loop-closing-smaller g c =
     let below = (at_some (entries c.args.closings.now) c.loop-closing.index c.in-Some.closing c.in-Some.ensures).0 in
     omega arith
 
-pub loop_closing_preserved : goal.loop_closing_preserved
-loop_closing_preserved g c =
+pub loop-closing-preserved : goal.loop-closing-preserved
+loop-closing-preserved g c =
     let more = joined_next closing_line (entries c.args.closings.now) c.loop-closing.index c.in-Some.closing c.in-Some.ensures in
     subst (λ xs. Puts g.S.Sink.takes c.args.sink.now xs c.put-closing.new.sink) (sym more) (then c.loop-closing.invariant c.put-closing.ensures)
 
@@ -28,8 +28,8 @@ returns g c =
     subst (λ xs. Puts g.S.Sink.takes c.args.sink.now (flat_map closing_line xs) c.loop-closing.sink)
     (take_all i es (at_none es i c.in-default.ensures)) c.loop-closing.invariant
 
-pub overflow_add_index : goal.overflow_add_index
-overflow_add_index g c =
+pub overflow-add-index : goal.overflow-add-index
+overflow-add-index g c =
     let roll = c.args.closings.now in
     let below = (at_some (entries roll) c.loop-closing.index c.in-Some.closing c.in-Some.ensures).0 in
     let long = length-take-le roll.count roll.places.now roll.within in

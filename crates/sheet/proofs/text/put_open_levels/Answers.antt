@@ -12,8 +12,8 @@ spaced_append (f ∷ fs) gs = ap (λ xs. 32 ∷ (f ++ xs)) (spaced_append fs gs)
 one_deeper : {S : Type 0} (p : Play S) (s : S) (d : ℕ) → spaced (open_fields p s d) ++ spaced (open_field (p.level s d)) ≡ spaced (open_fields p s (d + 1))
 one_deeper p s d = sym (spaced_append (open_fields p s d) (open_field (p.level s d))) ∙ ap (λ n. spaced (open_fields p s n)) (sym (add-one d))
 
-pub loop_depth_preserved : goal.loop_depth_preserved
-loop_depth_preserved g c =
+pub loop-depth-preserved : goal.loop-depth-preserved
+loop-depth-preserved g c =
     let p = (contest_of (g.C.Contest.pile c.args.pile.now)).play in
     let s = g.C.Contest.standing c.args.pile.now in
     put_as (one_deeper p s c.loop-depth.depth)

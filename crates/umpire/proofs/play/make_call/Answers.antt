@@ -6,8 +6,8 @@ use Rattle.umpire.specs.States.{state_of}
 use Rattle.umpire.proofs.Turns.{answer_called, answer_settled}
 use Rattle.umpire.proofs.play.make_call.Goals as goal
 
-pub returns_in_rally : goal.returns_in_rally
-returns_in_rally g c =
+pub returns-in-Rally : goal.returns-in-Rally
+returns-in-Rally g c =
     let r = contest_of (g.C.Contest.pile c.args.ongoing.now.pile) in
     let d = state_of g.C.Contest.standing c.args.ongoing.now c.args.log.now in
     record {
@@ -17,8 +17,8 @@ returns_in_rally g c =
       after = c.call.ensures.after ∙ ap (left_after r d) (sym c.in-Rally.is);
     }
 
-pub returns_in_point : goal.returns_in_point
-returns_in_point g c =
+pub returns-in-Point : goal.returns-in-Point
+returns-in-Point g c =
     let r = contest_of (g.C.Contest.pile c.args.ongoing.now.pile) in
     let d = state_of g.C.Contest.standing c.args.ongoing.now c.args.log.now in
     record {
@@ -28,8 +28,8 @@ returns_in_point g c =
       after = c.settle-point.ensures.after ∙ ap (left_after r d) (sym c.in-Point.is);
     }
 
-pub returns_in_let : goal.returns_in_let
-returns_in_let g c =
+pub returns-in-Let : goal.returns-in-Let
+returns-in-Let g c =
     let r = contest_of (g.C.Contest.pile c.args.ongoing.now.pile) in
     let d = state_of g.C.Contest.standing c.args.ongoing.now c.args.log.now in
     record {

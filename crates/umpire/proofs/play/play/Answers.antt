@@ -13,11 +13,11 @@ use Rattle.umpire.proofs.Promise.{promised}
 use Rattle.umpire.proofs.Turns.{one_more, at_end, same_state, none_made}
 use Rattle.umpire.proofs.play.play.Goals as goal
 
-pub loop_i_init : goal.loop_i_init
-loop_i_init g c = (refl, none_made _ _ _ _ _ c.clear-2.ensures.entries, refl, refl)
+pub loop-i-init : goal.loop-i-init
+loop-i-init g c = (refl, none_made _ _ _ _ _ c.clear-2.ensures.entries, refl, refl)
 
-pub loop_i_preserved : goal.loop_i_preserved
-loop_i_preserved g c =
+pub loop-i-preserved : goal.loop-i-preserved
+loop-i-preserved g c =
     let all = c.args.calls.now in
     let fresh = c.clear-2.new.self in
     let ks = take (capacity fresh) all in

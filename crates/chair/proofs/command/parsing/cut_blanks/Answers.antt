@@ -6,13 +6,13 @@ use Rattle.chair.proofs.Blanks.{end_more, end_found, end_none}
 use Rattle.chair.proofs.command.parsing.cut_blanks.Goals as goal
 use Rattle.chair.proofs.command.parsing.cut_blanks.Goals.{then-loop-to-test+else-is-blank, else-loop-to-test}
 
-pub loop_to_init : goal.loop_to_init
-loop_to_init c =
+pub loop-to-init : goal.loop-to-init
+loop-to-init c =
     let xs = c.args.line.now in
     (omega arith, ap unpadded (sym (take_all (length xs) xs (omega arith))))
 
-pub loop_to_preserved : goal.loop_to_preserved
-loop_to_preserved c =
+pub loop-to-preserved : goal.loop-to-preserved
+loop-to-preserved c =
     let blank = sym c.is_blank.ensures ∙ c.if-is-blank.true in
     (omega arith, c.loop-to.invariant.1 ∙ end_more c.args.line.now c.loop-to.to c.loop-to-test.true c.loop-to.invariant.0 blank)
 

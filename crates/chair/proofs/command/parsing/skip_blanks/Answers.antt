@@ -5,8 +5,8 @@ use Rattle.chair.proofs.Blanks.{front_more, front_found, front_none}
 use Rattle.chair.proofs.command.parsing.skip_blanks.Goals as goal
 use Rattle.chair.proofs.command.parsing.skip_blanks.Goals.{then-loop-from-test+else-is-blank, else-loop-from-test}
 
-pub loop_from_preserved : goal.loop_from_preserved
-loop_from_preserved c =
+pub loop-from-preserved : goal.loop-from-preserved
+loop-from-preserved c =
     let blank = sym c.is_blank.ensures ∙ c.if-is-blank.true in
     (omega arith, c.loop-from.invariant.1 ∙ front_more c.args.line.now c.loop-from.from (omega arith) blank)
 

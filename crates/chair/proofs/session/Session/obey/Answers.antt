@@ -5,8 +5,8 @@ use Rattle.chair.specs.Sessions.{session_state, session_rules, reply_to, left_by
 use Rattle.chair.proofs.Growing.{grown}
 use Rattle.chair.proofs.session.Session.obey.Goals as goal
 
-pub returns_in_rally : goal.returns_in_rally
-returns_in_rally g c =
+pub returns-in-Rally : goal.returns-in-Rally
+returns-in-Rally g c =
     let s = c.args.self.now in
     let r = session_rules g.C.Contest.pile s in
     let d = session_state g.C.Contest.standing s in
@@ -21,8 +21,8 @@ returns_in_rally g c =
       grows = λ h. ap (λ e. log_bytes h e.log) after ∙ grown r d s.held c.args.command h ∙ ap (λ a. log_bytes h d.log ++ record_of a) (sym reply);
     }
 
-pub returns_in_settle : goal.returns_in_settle
-returns_in_settle g c =
+pub returns-in-Settle : goal.returns-in-Settle
+returns-in-Settle g c =
     let s = c.args.self.now in
     let r = session_rules g.C.Contest.pile s in
     let d = session_state g.C.Contest.standing s in

@@ -8,8 +8,8 @@ use Rattle.contest.proofs.Piling.{pile_laws}
 use Rattle.contest.proofs.Switching.{chosen_winner}
 use Rattle.contest.proofs.switch.Switch.reopen.Goals as goal
 
-pub returns_in_some : goal.returns_in_some
-returns_in_some g c =
+pub returns-in-Some : goal.returns-in-Some
+returns-in-Some g c =
     let s = c.args.self.now in
     let p = g.C.Contest.pile s.ordinary in
     let q = g.D.Contest.pile s.deciding in
