@@ -4,6 +4,8 @@
 //
 // The commands, one a line: `rally`, `A` or `B` (a point for that side), `let`, `score`, `quit`; in short `r`, `a`, `b`, `l`, `s`, `q`.
 // The record of a settled rally is stored in `rally.log` before the new score is shown. An open rally is a let when the session ends.
+#![tactic(auto)]
+
 mod board;
 mod command;
 mod log_file;

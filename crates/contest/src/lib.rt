@@ -1,4 +1,6 @@
 // Contests between two sides: what a contest is, the contests at the bottom, and the layers that stack one contest on another.
+#![tactic(auto)]
+
 pub mod contest;
 mod depth;
 pub mod fault;

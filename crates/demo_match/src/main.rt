@@ -1,4 +1,6 @@
 // A game of tennis as its umpire leads it: rallies are called and settled one by one, and the score is told.
+#![tactic(auto)]
+
 use contest::contest::Contest;
 use contest::side::Side;
 use formats::piles::game;

@@ -1,5 +1,7 @@
 // The scorer for programs in C: one call from the bytes of a log to the bytes of its sheet, without a heap and without input or
 // output. embed/cibraduc.h declares it.
+#![tactic(auto)]
+
 ghost use Rattle.std.specs.Prelude.{◌≡◌, ◌≤◌, MatchOption};
 ghost use Rattle.embed.specs.Answers.{winner_told, told, short_of_places, ScoredWith, Scores};
 

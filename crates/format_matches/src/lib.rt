@@ -1,5 +1,7 @@
 // Whole matches in the formats: each function plays a match over the pile of its format. The contracts name the table's piles and
 // nothing that a pile says of itself.
+#![tactic(auto)]
+
 ghost use Rattle.contest.specs.Built.{race_pile, race_standing, switch_pile, switch_standing};
 ghost use Rattle.contest.specs.Service.{stay, turn, to_winner, carry, pairs, twos};
 ghost use Rattle.formats.specs.Models.{rallies_pile, rallies_standing, sets_pile, sets_standing, hands_pile, hands_standing};

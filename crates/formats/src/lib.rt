@@ -1,4 +1,6 @@
 // The formats that matches are played in: their codes, names and piles.
+#![tactic(auto)]
+
 pub mod cases;
 pub mod format;
 pub mod piles;

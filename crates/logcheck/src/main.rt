@@ -1,4 +1,6 @@
 // Reads and writes logs that are cut, spoilt, too long or of a wrong code, and prints what each comes to.
+#![tactic(auto)]
+
 use contest::side::Side;
 use rally_log::entry::{Entry, Header};
 use rally_log::reading::read;

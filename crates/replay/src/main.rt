@@ -9,6 +9,8 @@
 //     winner · server · level DEPTH · totals      the questions
 //
 // A refused call prints `refused` and its number. A line that begins with `#` is copied, and an empty one passed over.
+#![tactic(auto)]
+
 mod script;
 
 use anyhow::anyhow;

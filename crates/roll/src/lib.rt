@@ -1,4 +1,6 @@
 // Records of one kind, kept in places that the caller lends.
+#![tactic(auto)]
+
 ghost use Rattle.std.specs.Prelude.{◌≤◌, length};
 
 pub mod lending;

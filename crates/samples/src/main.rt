@@ -1,4 +1,6 @@
 // Scores the logs named by its arguments, one after the other: for each a line `# NAME`, and then its sheet or `fault N at P`.
+#![tactic(auto)]
+
 use contest::side::Side;
 use rally_log::entry::Entry;
 use sheet::closing::Closing;

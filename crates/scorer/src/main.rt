@@ -2,6 +2,8 @@
 //
 // At most 65,536 bytes of the log are read, and a missing file is an empty one. The status is 0 for a sheet and for a fault; an
 // error of input or output is reported on the standard error, with status 1.
+#![tactic(auto)]
+
 ghost use Rattle.std.specs.Prelude.{◌≤◌, length, IfOk};
 
 use contest::side::Side;

@@ -1,4 +1,6 @@
 // Scoring a log, and the score sheet.
+#![tactic(auto)]
+
 pub mod closing;
 pub mod fault;
 pub mod score;

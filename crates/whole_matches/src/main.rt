@@ -4,6 +4,8 @@
 //
 // For each it prints how many points were taken before the end, the winner, the server of every point that was taken, and
 // the levels from the outside in, with `/` and the winner behind a level that has one.
+#![tactic(auto)]
+
 use anyhow::Context;
 use contest::contest::Contest;
 use contest::service::Service;

@@ -13,9 +13,9 @@ returns-in-Some g c =
     let s = c.args.self.now in
     let p = g.C.Contest.pile s.ordinary in
     let q = g.D.Contest.pile s.deciding in
-    let fresh = chosen_winner (contest_of p) (contest_of q) (pile_laws p (g.met.C.Contest.sound s.ordinary)) (pile_laws q (g.met.D.Contest.sound s.deciding)) (decisive s.threshold (counts_of s.tally)) c.next-opener-next.result in
+    let fresh = chosen_winner (contest_of p) (contest_of q) (pile_laws p (g.met.C.Contest.sound s.ordinary)) (pile_laws q (g.met.D.Contest.sound s.deciding)) (decisive s.threshold (counts_of s.tally)) c.next_opener-next.result in
     record {
       kept = search rules;
       stood = search rules;
-      undecided = ap₂ (λ l t. l.below.winner t.below) (ap switch_layer c.open-below.ensures.kept) c.open-below.ensures.stood ∙ fresh;
+      undecided = ap₂ (λ l t. l.below.winner t.below) (ap switch_layer c.open_below.ensures.kept) c.open_below.ensures.stood ∙ fresh;
     }
