@@ -6,7 +6,6 @@ use Rattle.contest.specs.Layers.{Layer, Standing, layer, stands, next_opener, re
 use Rattle.contest.specs.Cuttings.{Piece, Cutting, Start, first, begun, ended, next, Along, Played, joined, Cuts, won, stands_at, serves_at, level_of, Parted}
 use Rattle.contest.specs.declared.side.Side.{Side}
 use Rattle.contest.specs.declared.side.Side.TheVariants.{A, B}
-use Rattle.contest.specs.declared.level.Level.{Level}
 use Rattle.contest.proofs.Runs.{Whole, Undecided, not_both, run_append, taken_front, taken_back, taken_push, last_point, whole_once, whole_not_begins}
 use Rattle.contest.specs.GoalsLemmas.{Allowed, Within, none_within, none_wins, tallied_within, winner_wins, wins_winner}
 

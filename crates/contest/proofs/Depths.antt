@@ -1,5 +1,5 @@
 -- How far down a layer has levels, and levels with a winner, from how far down the contest below has them.
-use Rattle.std.proofs.Common.{◌≡◌, ℕ, zero, suc, ◌+◌, ◌<◌, ◌≤◌, min, Bool, true, false, is_some, Some, None, Option, sym, refl, ap, subst, arith}
+use Rattle.std.proofs.Common.{◌≡◌, ℕ, zero, suc, ◌<◌, ◌≤◌, true, is_some, Some, None, Option, sym, refl, ap, subst, arith}
 use Rattle.contest.specs.Depths.{Levels, Closed, winner_in, one_more, closed_above}
 use Rattle.contest.specs.Goals.{winner_by}
 use Rattle.contest.specs.Layers.{Layer, Standing, layer}

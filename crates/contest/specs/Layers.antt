@@ -6,7 +6,6 @@ use Rattle.contest.specs.Service.{Rule}
 use Rattle.contest.specs.Goals.{Goal, Counts, none_yet, tallied, swapped_counts, winner_by}
 use Rattle.contest.specs.declared.side.Side.{Side}
 use Rattle.contest.specs.declared.level.Level.{Level}
-use Rattle.contest.specs.declared.service.Situation.{Situation}
 
 -- what a layer plays by
 pub record Layer (S : Type 0) : Type 0 where

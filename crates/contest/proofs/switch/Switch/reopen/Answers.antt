@@ -1,6 +1,5 @@
 -- A contest that was just opened has no winner.
 use Rattle.std.proofs.Common.{ap, ◌∙◌, ap₂, rules}
-use Rattle.contest.specs.Layers.{Standing}
 use Rattle.contest.specs.Piles.{contest_of, switch_layer}
 use Rattle.contest.specs.Switches.{decisive}
 use Rattle.contest.specs.Tally.{counts_of}
