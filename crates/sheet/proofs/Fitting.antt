@@ -1,5 +1,5 @@
 -- A sheet that was written is no longer than the bytes that it was written in.
-use Rattle.std.proofs.Common.{◌≡◌, ℕ, ◌≤◌, Bool, true, false, cond, leb, List, [], length, IfOk, Ok, Err, Option, Result, sym, refl, ap, ◌∙◌, arith}
+use Rattle.std.proofs.Common.{◌≡◌, ℕ, ◌≤◌, Bool, true, false, cond, leb, List, [], length, IfOk, Ok, Err, Option, Result, refl, arith}
 use Rattle.std.proofs.lemmas.Bool.{leb-true}
 use Rattle.contest.specs.Piles.{Shape, Pile, contest_of}
 use Rattle.contest.specs.declared.side.Side.{Side}

@@ -1,5 +1,5 @@
 -- What the two sinks make of a text: one has its length, the other has written it.
-use Rattle.std.proofs.Common.{◌≡◌, ℕ, suc, ◌+◌, ◌-◌, ◌^◌, ◌<◌, ◌≤◌, min, List, [], ◌∷◌, ◌++◌, length, take, drop, set, sym, refl, ap, ◌∙◌, subst, ap₂, append_assoc, add-zero, add-suc, zero-add, add-one, arith}
+use Rattle.std.proofs.Common.{◌≡◌, ℕ, ◌+◌, ◌-◌, ◌^◌, ◌<◌, ◌≤◌, min, List, [], ◌∷◌, ◌++◌, length, take, drop, set, sym, ap, ◌∙◌, ap₂, append_assoc, add-zero, zero-add, arith}
 use Rattle.std.proofs.lemmas.List.{take-append-drop, length-set, take_more_set, drop-set-lt}
 use Rattle.sheet.specs.Sinks.{TakesAll, CountsOne, WritesOne, Puts, Measures}
 use Rattle.sheet.specs.declared.sink.Measure.{Measure}

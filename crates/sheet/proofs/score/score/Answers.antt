@@ -7,11 +7,11 @@ use Rattle.sheet.proofs.score.score.Goals as goal
 pub returns-in-Some : goal.returns-in-Some
 returns-in-Some g c =
     let r = c.args.closings.now in
-    let q = c.score-in.new.closings in
+    let q = c.score_in.new.closings in
     record {
-      scores = subst (λ f. ScoresAs (g.C.Contest.pile c.args.pile) c.args.number f c.args.opener (entries c.args.log.now) (entries r) (spare r) c.args.sheet.now c.score-in.result (entries q) (spare q) c.score-in.new.sheet)
-          c.in-Some.ensures.value c.score-in.ensures.scores;
-      same = c.score-in.ensures.same;
+      scores = subst (λ f. ScoresAs (g.C.Contest.pile c.args.pile) c.args.number f c.args.opener (entries c.args.log.now) (entries r) (spare r) c.args.sheet.now c.score_in.result (entries q) (spare q) c.score_in.new.sheet)
+          c.in-Some.ensures.value c.score_in.ensures.scores;
+      same = c.score_in.ensures.same;
     }
 
 pub returns-in-None : goal.returns-in-None

@@ -14,14 +14,14 @@ returns-in-Ok g c =
     let before = c.args.closings.now in
     let places = entries before ++ spare before in
     let sheet = c.args.sheet.now in
-    let answer : c.write-scored.result ≡ answer_to p h.number h.opener es h.format (length sheet) (ending (contest_of p).play ((contest_of p).opening h.opener) (most [] places) 0 0 es) = search rules in
+    let answer : c.write_scored.result ≡ answer_to p h.number h.opener es h.format (length sheet) (ending (contest_of p).play ((contest_of p).opening h.opener) (most [] places) 0 0 es) = search rules in
     record {
       scores = record {
         answer = answer;
         held_is = search rules;
         left_is = search rules;
         sheet_is = search rules;
-        cut = took_all p (g.met.C.Contest.sound c.args.pile) h.number h.opener es h.format (length sheet) (most [] places) c.write-scored.result answer;
+        cut = took_all p (g.met.C.Contest.sound c.args.pile) h.number h.opener es h.format (length sheet) (most [] places) c.write_scored.result answer;
       };
       same = search rules;
     }

@@ -27,87 +27,87 @@ with_pile {h} heading es places bytes r held left after p q e k = subst (λ v. S
 pub returns-in-Game : goal.returns-in-Game
 returns-in-Game c =
     let before = c.args.closings.now in
-    let q = c.score-in.new.closings in
+    let q = c.score_in.new.closings in
     let places = entries before ++ spare before in
     record {
-      scored = in_format c.args.heading (entries c.args.log.now) places c.args.sheet.now c.score-in.result (entries q) (spare q) c.score-in.new.sheet _ c.in-Game.is
-          (with_pile c.args.heading (entries c.args.log.now) places c.args.sheet.now c.score-in.result (entries q) (spare q) c.score-in.new.sheet _ _ c.game.ensures.rules c.score-in.ensures.scores);
-      same = c.score-in.ensures.same;
+      scored = in_format c.args.heading (entries c.args.log.now) places c.args.sheet.now c.score_in.result (entries q) (spare q) c.score_in.new.sheet _ c.in-Game.is
+          (with_pile c.args.heading (entries c.args.log.now) places c.args.sheet.now c.score_in.result (entries q) (spare q) c.score_in.new.sheet _ _ c.game.ensures.rules c.score_in.ensures.scores);
+      same = c.score_in.ensures.same;
     }
 
 pub returns-in-Tennis3 : goal.returns-in-Tennis3
 returns-in-Tennis3 c =
     let before = c.args.closings.now in
-    let q = c.score-in-in-Tennis3.new.closings in
+    let q = c.score_in-in-Tennis3.new.closings in
     let places = entries before ++ spare before in
     record {
-      scored = in_format c.args.heading (entries c.args.log.now) places c.args.sheet.now c.score-in-in-Tennis3.result (entries q) (spare q) c.score-in-in-Tennis3.new.sheet _ c.in-Tennis3.is
-          (with_pile c.args.heading (entries c.args.log.now) places c.args.sheet.now c.score-in-in-Tennis3.result (entries q) (spare q) c.score-in-in-Tennis3.new.sheet _ _ c.tennis3.ensures.rules c.score-in-in-Tennis3.ensures.scores);
-      same = c.score-in-in-Tennis3.ensures.same;
+      scored = in_format c.args.heading (entries c.args.log.now) places c.args.sheet.now c.score_in-in-Tennis3.result (entries q) (spare q) c.score_in-in-Tennis3.new.sheet _ c.in-Tennis3.is
+          (with_pile c.args.heading (entries c.args.log.now) places c.args.sheet.now c.score_in-in-Tennis3.result (entries q) (spare q) c.score_in-in-Tennis3.new.sheet _ _ c.tennis3.ensures.rules c.score_in-in-Tennis3.ensures.scores);
+      same = c.score_in-in-Tennis3.ensures.same;
     }
 
 pub returns-in-Tennis5 : goal.returns-in-Tennis5
 returns-in-Tennis5 c =
     let before = c.args.closings.now in
-    let q = c.score-in-in-Tennis5.new.closings in
+    let q = c.score_in-in-Tennis5.new.closings in
     let places = entries before ++ spare before in
     record {
-      scored = in_format c.args.heading (entries c.args.log.now) places c.args.sheet.now c.score-in-in-Tennis5.result (entries q) (spare q) c.score-in-in-Tennis5.new.sheet _ c.in-Tennis5.is
-          (with_pile c.args.heading (entries c.args.log.now) places c.args.sheet.now c.score-in-in-Tennis5.result (entries q) (spare q) c.score-in-in-Tennis5.new.sheet _ _ c.tennis5.ensures.rules c.score-in-in-Tennis5.ensures.scores);
-      same = c.score-in-in-Tennis5.ensures.same;
+      scored = in_format c.args.heading (entries c.args.log.now) places c.args.sheet.now c.score_in-in-Tennis5.result (entries q) (spare q) c.score_in-in-Tennis5.new.sheet _ c.in-Tennis5.is
+          (with_pile c.args.heading (entries c.args.log.now) places c.args.sheet.now c.score_in-in-Tennis5.result (entries q) (spare q) c.score_in-in-Tennis5.new.sheet _ _ c.tennis5.ensures.rules c.score_in-in-Tennis5.ensures.scores);
+      same = c.score_in-in-Tennis5.ensures.same;
     }
 
 pub returns-in-TennisMt : goal.returns-in-TennisMt
 returns-in-TennisMt c =
     let before = c.args.closings.now in
-    let q = c.score-in-in-TennisMt.new.closings in
+    let q = c.score_in-in-TennisMt.new.closings in
     let places = entries before ++ spare before in
     record {
-      scored = in_format c.args.heading (entries c.args.log.now) places c.args.sheet.now c.score-in-in-TennisMt.result (entries q) (spare q) c.score-in-in-TennisMt.new.sheet _ c.in-TennisMt.is
-          (with_pile c.args.heading (entries c.args.log.now) places c.args.sheet.now c.score-in-in-TennisMt.result (entries q) (spare q) c.score-in-in-TennisMt.new.sheet _ _ c.tennismt.ensures.rules c.score-in-in-TennisMt.ensures.scores);
-      same = c.score-in-in-TennisMt.ensures.same;
+      scored = in_format c.args.heading (entries c.args.log.now) places c.args.sheet.now c.score_in-in-TennisMt.result (entries q) (spare q) c.score_in-in-TennisMt.new.sheet _ c.in-TennisMt.is
+          (with_pile c.args.heading (entries c.args.log.now) places c.args.sheet.now c.score_in-in-TennisMt.result (entries q) (spare q) c.score_in-in-TennisMt.new.sheet _ _ c.tennismt.ensures.rules c.score_in-in-TennisMt.ensures.scores);
+      same = c.score_in-in-TennisMt.ensures.same;
     }
 
 pub returns-in-Badminton : goal.returns-in-Badminton
 returns-in-Badminton c =
     let before = c.args.closings.now in
-    let q = c.score-in-in-Badminton.new.closings in
+    let q = c.score_in-in-Badminton.new.closings in
     let places = entries before ++ spare before in
     record {
-      scored = in_format c.args.heading (entries c.args.log.now) places c.args.sheet.now c.score-in-in-Badminton.result (entries q) (spare q) c.score-in-in-Badminton.new.sheet _ c.in-Badminton.is
-          (with_pile c.args.heading (entries c.args.log.now) places c.args.sheet.now c.score-in-in-Badminton.result (entries q) (spare q) c.score-in-in-Badminton.new.sheet _ _ c.badminton.ensures.rules c.score-in-in-Badminton.ensures.scores);
-      same = c.score-in-in-Badminton.ensures.same;
+      scored = in_format c.args.heading (entries c.args.log.now) places c.args.sheet.now c.score_in-in-Badminton.result (entries q) (spare q) c.score_in-in-Badminton.new.sheet _ c.in-Badminton.is
+          (with_pile c.args.heading (entries c.args.log.now) places c.args.sheet.now c.score_in-in-Badminton.result (entries q) (spare q) c.score_in-in-Badminton.new.sheet _ _ c.badminton.ensures.rules c.score_in-in-Badminton.ensures.scores);
+      same = c.score_in-in-Badminton.ensures.same;
     }
 
 pub returns-in-Volleyball : goal.returns-in-Volleyball
 returns-in-Volleyball c =
     let before = c.args.closings.now in
-    let q = c.score-in-in-Volleyball.new.closings in
+    let q = c.score_in-in-Volleyball.new.closings in
     let places = entries before ++ spare before in
     record {
-      scored = in_format c.args.heading (entries c.args.log.now) places c.args.sheet.now c.score-in-in-Volleyball.result (entries q) (spare q) c.score-in-in-Volleyball.new.sheet _ c.in-Volleyball.is
-          (with_pile c.args.heading (entries c.args.log.now) places c.args.sheet.now c.score-in-in-Volleyball.result (entries q) (spare q) c.score-in-in-Volleyball.new.sheet _ _ c.volleyball.ensures.rules c.score-in-in-Volleyball.ensures.scores);
-      same = c.score-in-in-Volleyball.ensures.same;
+      scored = in_format c.args.heading (entries c.args.log.now) places c.args.sheet.now c.score_in-in-Volleyball.result (entries q) (spare q) c.score_in-in-Volleyball.new.sheet _ c.in-Volleyball.is
+          (with_pile c.args.heading (entries c.args.log.now) places c.args.sheet.now c.score_in-in-Volleyball.result (entries q) (spare q) c.score_in-in-Volleyball.new.sheet _ _ c.volleyball.ensures.rules c.score_in-in-Volleyball.ensures.scores);
+      same = c.score_in-in-Volleyball.ensures.same;
     }
 
 pub returns-in-Table5 : goal.returns-in-Table5
 returns-in-Table5 c =
     let before = c.args.closings.now in
-    let q = c.score-in-in-Table5.new.closings in
+    let q = c.score_in-in-Table5.new.closings in
     let places = entries before ++ spare before in
     record {
-      scored = in_format c.args.heading (entries c.args.log.now) places c.args.sheet.now c.score-in-in-Table5.result (entries q) (spare q) c.score-in-in-Table5.new.sheet _ c.in-Table5.is
-          (with_pile c.args.heading (entries c.args.log.now) places c.args.sheet.now c.score-in-in-Table5.result (entries q) (spare q) c.score-in-in-Table5.new.sheet _ _ c.table5.ensures.rules c.score-in-in-Table5.ensures.scores);
-      same = c.score-in-in-Table5.ensures.same;
+      scored = in_format c.args.heading (entries c.args.log.now) places c.args.sheet.now c.score_in-in-Table5.result (entries q) (spare q) c.score_in-in-Table5.new.sheet _ c.in-Table5.is
+          (with_pile c.args.heading (entries c.args.log.now) places c.args.sheet.now c.score_in-in-Table5.result (entries q) (spare q) c.score_in-in-Table5.new.sheet _ _ c.table5.ensures.rules c.score_in-in-Table5.ensures.scores);
+      same = c.score_in-in-Table5.ensures.same;
     }
 
 pub returns-in-SideOut : goal.returns-in-SideOut
 returns-in-SideOut c =
     let before = c.args.closings.now in
-    let q = c.score-in-in-SideOut.new.closings in
+    let q = c.score_in-in-SideOut.new.closings in
     let places = entries before ++ spare before in
     record {
-      scored = in_format c.args.heading (entries c.args.log.now) places c.args.sheet.now c.score-in-in-SideOut.result (entries q) (spare q) c.score-in-in-SideOut.new.sheet _ c.in-SideOut.is
-          (with_pile c.args.heading (entries c.args.log.now) places c.args.sheet.now c.score-in-in-SideOut.result (entries q) (spare q) c.score-in-in-SideOut.new.sheet _ _ c.sideout.ensures.rules c.score-in-in-SideOut.ensures.scores);
-      same = c.score-in-in-SideOut.ensures.same;
+      scored = in_format c.args.heading (entries c.args.log.now) places c.args.sheet.now c.score_in-in-SideOut.result (entries q) (spare q) c.score_in-in-SideOut.new.sheet _ c.in-SideOut.is
+          (with_pile c.args.heading (entries c.args.log.now) places c.args.sheet.now c.score_in-in-SideOut.result (entries q) (spare q) c.score_in-in-SideOut.new.sheet _ _ c.sideout.ensures.rules c.score_in-in-SideOut.ensures.scores);
+      same = c.score_in-in-SideOut.ensures.same;
     }

@@ -5,9 +5,9 @@ use Rattle.roll.specs.Rolls.{entries, spare, most}
 use Rattle.sheet.proofs.Fitting.{fits}
 use Rattle.sheet.proofs.sheets.score_log.Goals as goal
 
-pub returns-in-Ok-score-read : goal.returns-in-Ok-score-read
-returns-in-Ok-score-read c =
-    let scored = c.in-Ok-score-read.ensures in
+pub returns-in-Ok-score_read : goal.returns-in-Ok-score_read
+returns-in-Ok-score_read c =
+    let scored = c.in-Ok-score_read.ensures in
     let roll = c.read.new.roll in
     let new = c.new-log.ensures in
     let lent = c.args.entries.now in
@@ -16,18 +16,18 @@ returns-in-Ok-score-read c =
     let left : spare roll ≡ drop (length (entries roll)) lent = c.read.ensures.spare ∙ ap (drop (length (entries roll))) (ap₂ ◌++◌ new.entries new.spare) in
     let whole : roll.places.now ≡ entries roll ++ drop (length (entries roll)) lent = sym (take-append-drop roll.count roll.places.now) ∙ ap (λ xs. entries roll ++ xs) left in
     record {
-      within = fits scored.format c.in-Ok.header.number c.in-Ok.header.opener (entries roll) c.args.closings.now c.args.sheet.now (Ok c.in-Ok-score-read.scored) scored.held scored.left c.score-read.new.sheet scored.format scored.scored;
+      within = fits scored.format c.in-Ok.header.number c.in-Ok.header.opener (entries roll) c.args.closings.now c.args.sheet.now (Ok c.in-Ok-score_read.scored) scored.held scored.left c.score_read.new.sheet scored.format scored.scored;
       whole = record {
         header = c.in-Ok.header;
         log = entries roll;
         accepted = subst (λ n. Accepted c.args.bytes.now n c.in-Ok.header (entries roll)) places c.in-Ok.ensures.reads;
         entries_are = search rules;
-        scores = c.in-Ok-score-read.ensures;
+        scores = c.in-Ok-score_read.ensures;
       };
     }
 
-pub returns-in-Err-score-read : goal.returns-in-Err-score-read
-returns-in-Err-score-read c =
+pub returns-in-Err-score_read : goal.returns-in-Err-score_read
+returns-in-Err-score_read c =
     let roll = c.read.new.roll in
     let new = c.new-log.ensures in
     let lent = c.args.entries.now in
@@ -42,7 +42,7 @@ returns-in-Err-score-read c =
         log = entries roll;
         accepted = subst (λ n. Accepted c.args.bytes.now n c.in-Ok.header (entries roll)) places c.in-Ok.ensures.reads;
         entries_are = search rules;
-        scores = c.in-Err-score-read.ensures;
+        scores = c.in-Err-score_read.ensures;
       };
     }
 

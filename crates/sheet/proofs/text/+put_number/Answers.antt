@@ -1,5 +1,5 @@
 -- A number is written as its tenth is, and then its last digit.
-use Rattle.std.proofs.Common.{◌≡◌, ℕ, ◌+◌, ◌%◌, ◌^◌, ◌<◌, List, [], ◌∷◌, ◌++◌, decimal, sym, ap, ◌∙◌, subst, mod-eq_of_lt, arith}
+use Rattle.std.proofs.Common.{◌≡◌, ℕ, ◌+◌, ◌%◌, ◌<◌, [], ◌∷◌, decimal, sym, ap, ◌∙◌, subst, mod-eq_of_lt, arith}
 use Rattle.std.proofs.lemmas.Fmt.{decimal_digit, decimal_step}
 use Rattle.sheet.specs.Sinks.{Puts}
 use Rattle.sheet.proofs.Sinking.{then, put_as}
@@ -17,7 +17,7 @@ returns g t c =
     elim c.if-n-ge10.branch [
       | then-n-ge10 w ↦
           subst (λ xs. Puts takes c.args.sink.now xs c.put.new.self) (sym (decimal_step n w.if-n-ge10.true (omega arith)))
-          (then w.put-number.ensures (subst (λ s. Puts takes s ((48 + n % 10) ∷ []) c.put.new.self) w.sink-is put))
+          (then w.put_number.ensures (subst (λ s. Puts takes s ((48 + n % 10) ∷ []) c.put.new.self) w.sink-is put))
       | else-n-ge10 w ↦
           subst (λ xs. Puts takes c.args.sink.now xs c.put.new.self) (last_digit n w.if-n-ge10.false)
           (subst (λ s. Puts takes s ((48 + n % 10) ∷ []) c.put.new.self) w.sink-is put)

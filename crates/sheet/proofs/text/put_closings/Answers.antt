@@ -19,17 +19,17 @@ loop-closing-smaller g c =
 pub loop-closing-preserved : goal.loop-closing-preserved
 loop-closing-preserved g c =
     let more = joined_next closing_line (entries c.args.closings.now) c.loop-closing.index c.in-Some.closing c.in-Some.ensures in
-    subst (λ xs. Puts g.S.Sink.takes c.args.sink.now xs c.put-closing.new.sink) (sym more) (then c.loop-closing.invariant c.put-closing.ensures)
+    subst (λ xs. Puts g.S.Sink.takes c.args.sink.now xs c.put_closing.new.sink) (sym more) (then c.loop-closing.invariant c.put_closing.ensures)
 
 pub returns : goal.returns
 returns g c =
     let es = entries c.args.closings.now in
     let i = c.loop-closing.index in
     subst (λ xs. Puts g.S.Sink.takes c.args.sink.now (flat_map closing_line xs) c.loop-closing.sink)
-    (take_all i es (at_none es i c.in-default.ensures)) c.loop-closing.invariant
+    (take_all i es (at_none es i c.in_default.ensures)) c.loop-closing.invariant
 
-pub overflow-add-index : goal.overflow-add-index
-overflow-add-index g c =
+pub overflow_add-index : goal.overflow_add-index
+overflow_add-index g c =
     let roll = c.args.closings.now in
     let below = (at_some (entries roll) c.loop-closing.index c.in-Some.closing c.in-Some.ensures).0 in
     let long = length-take-le roll.count roll.places.now roll.within in

@@ -1,4 +1,4 @@
-use Rattle.std.proofs.Common.{◌≡◌, ℕ, List, [], ◌∷◌, ◌++◌, sym, refl, ap, ◌∙◌, append_assoc}
+use Rattle.std.proofs.Common.{◌≡◌, ℕ, List, [], ◌∷◌, ◌++◌, refl, ap, ◌∙◌, append_assoc}
 use Rattle.contest.specs.Piles.{contest_of}
 use Rattle.sheet.specs.Text.{side, spaced, rest_of_line, open_fields, last_line}
 use Rattle.sheet.proofs.Sinking.{then, put_as, put_from}
@@ -16,10 +16,10 @@ returns g c =
     let s = g.C.Contest.standing c.args.pile.now in
     elim c.match-winner.branch [
       | in-Some w ↦
-          put_as (ap (last_line p s) w.in-Some.ensures) (then w.put-text.ensures (then w.put-side.ensures (put_from w.sink-is c.put.ensures)))
+          put_as (ap (last_line p s) w.in-Some.ensures) (then w.put_text.ensures (then w.put_side.ensures (put_from w.sink-is c.put.ensures)))
       | in-None w ↦
           put_as (ap (last_line p s) w.in-None.ensures)
-          (then w.put-text_in-None.ensures
-          (then (put_as (ap side w.server.ensures) w.put-side-in-None.ensures)
-          (put_as (line_ends (open_fields p s 16)) (then w.put-open-levels.ensures (put_from w.sink-is c.put.ensures)))))
+          (then w.put_text-in-None.ensures
+          (then (put_as (ap side w.server.ensures) w.put_side-in-None.ensures)
+          (put_as (line_ends (open_fields p s 16)) (then w.put_open_levels.ensures (put_from w.sink-is c.put.ensures)))))
     ]

@@ -1,4 +1,4 @@
-use Rattle.std.proofs.Common.{◌≡◌, ℕ, suc, ◌+◌, List, [], ◌∷◌, ◌++◌, sym, refl, ap, ◌∙◌, append_assoc, add-one}
+use Rattle.std.proofs.Common.{◌≡◌, ℕ, ◌+◌, List, [], ◌∷◌, ◌++◌, sym, refl, ap, ◌∙◌, append_assoc, add-one}
 use Rattle.contest.specs.Contests.{Play}
 use Rattle.contest.specs.Piles.{contest_of}
 use Rattle.sheet.specs.Text.{spaced, open_field, open_fields}
@@ -17,4 +17,4 @@ loop-depth-preserved g c =
     let p = (contest_of (g.C.Contest.pile c.args.pile.now)).play in
     let s = g.C.Contest.standing c.args.pile.now in
     put_as (one_deeper p s c.loop-depth.depth)
-    (then c.loop-depth.invariant (put_as (ap (λ l. spaced (open_field l)) c.level.ensures) c.put-open-level.ensures))
+    (then c.loop-depth.invariant (put_as (ap (λ l. spaced (open_field l)) c.level.ensures) c.put_open_level.ensures))

@@ -8,7 +8,7 @@ unfolding text_of
 returns g c =
     let h = c.args.heading in
     let t = c.totals_of.ensures in
-    then (put_as (ap (λ name. match_line h.number name h.opener) c.name.ensures) c.put-match.ensures)
-    (then c.put-closings.ensures
-    (then (put_as (λ i. totals_line (t.a i) (t.b i) (t.lets i)) c.put-totals.ensures)
-    c.put-end.ensures))
+    then (put_as (ap (λ name. match_line h.number name h.opener) c.name.ensures) c.put_match.ensures)
+    (then c.put_closings.ensures
+    (then (put_as (λ i. totals_line (t.a i) (t.b i) (t.lets i)) c.put_totals.ensures)
+    c.put_end.ensures))

@@ -5,7 +5,7 @@ use Rattle.sheet.proofs.writing.write_sheet.Goals as goal
 
 pub returns : goal.returns
 returns g c =
-    let wrote = penned _ c.put-sheet.new.sink _ c.put-sheet.ensures refl c.requires in
+    let wrote = penned _ c.put_sheet.new.sink _ c.put_sheet.ensures refl c.requires in
     let same_name = sym wrote.0 in
     let bytes = wrote.1 in
     search rules
