@@ -1,5 +1,5 @@
 -- The laws of the answers fix every answer, and the answers fix what is left.
-use Rattle.std.proofs.Common.{◌≡◌, ℕ, zero, suc, ◌+◌, ◌<◌, min, Bool, true, false, ltb, List, [], ◌∷◌, ◌++◌, length, take, drop, Some, None, Option, sym, refl, ap, ◌∙◌, ap₂, arith}
+use Rattle.std.proofs.Common.{◌≡◌, ℕ, zero, suc, ◌+◌, min, Bool, true, false, ltb, List, [], ◌∷◌, ◌++◌, length, take, drop, Some, None, Option, sym, refl, ap, ◌∙◌, ap₂, arith}
 use Rattle.contest.specs.declared.side.Side.TheVariants.{A, B}
 use Rattle.rally_log.specs.Entries.{count_of, lets_in}
 use Rattle.std.proofs.lemmas.List.{take_all}

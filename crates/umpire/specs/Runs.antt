@@ -1,5 +1,5 @@
 -- What a list of calls and the list of their answers tell of the rallies. Nothing here knows how a call works.
-use Rattle.std.specs.Prelude.{ℕ, suc, cond, List, [], ◌∷◌, ◌++◌, length, Some, None, Option, nat_lt}
+use Rattle.std.specs.Prelude.{ℕ, cond, List, [], ◌∷◌, ◌++◌, length, Some, None, Option, nat_lt}
 use Rattle.rally_log.specs.Entries.{count_of, lets_in}
 use Rattle.contest.specs.declared.side.Side.{Side}
 use Rattle.contest.specs.declared.side.Side.TheVariants.{A, B}

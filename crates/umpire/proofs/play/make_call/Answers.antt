@@ -22,10 +22,10 @@ returns-in-Point g c =
     let r = contest_of (g.C.Contest.pile c.args.ongoing.now.pile) in
     let d = state_of g.C.Contest.standing c.args.ongoing.now c.args.log.now in
     record {
-      same = c.settle-point.ensures.same;
-      kept = c.settle-point.ensures.kept;
-      answer = c.settle_answer.ensures ∙ ap settle_answer c.settle-point.ensures.answer ∙ answer_settled _ _ ∙ ap (answer_to r d) (sym c.in-Point.is);
-      after = c.settle-point.ensures.after ∙ ap (left_after r d) (sym c.in-Point.is);
+      same = c.settle_point.ensures.same;
+      kept = c.settle_point.ensures.kept;
+      answer = c.settle_answer.ensures ∙ ap settle_answer c.settle_point.ensures.answer ∙ answer_settled _ _ ∙ ap (answer_to r d) (sym c.in-Point.is);
+      after = c.settle_point.ensures.after ∙ ap (left_after r d) (sym c.in-Point.is);
     }
 
 pub returns-in-Let : goal.returns-in-Let
@@ -33,8 +33,8 @@ returns-in-Let g c =
     let r = contest_of (g.C.Contest.pile c.args.ongoing.now.pile) in
     let d = state_of g.C.Contest.standing c.args.ongoing.now c.args.log.now in
     record {
-      same = c.settle-let.ensures.same;
-      kept = c.settle-let.ensures.kept;
-      answer = c.settle-answer-in-Let.ensures ∙ ap settle_answer c.settle-let.ensures.answer ∙ answer_settled _ _ ∙ ap (answer_to r d) (sym c.in-Let.is);
-      after = c.settle-let.ensures.after ∙ ap (left_after r d) (sym c.in-Let.is);
+      same = c.settle_let.ensures.same;
+      kept = c.settle_let.ensures.kept;
+      answer = c.settle_answer-in-Let.ensures ∙ ap settle_answer c.settle_let.ensures.answer ∙ answer_settled _ _ ∙ ap (answer_to r d) (sym c.in-Let.is);
+      after = c.settle_let.ensures.after ∙ ap (left_after r d) (sym c.in-Let.is);
     }

@@ -27,9 +27,9 @@ loop-i-preserved g c =
     let few : i < min (length (spare fresh)) 30000 = omega (arith, c.min-count.ensures, c.capacity.ensures, ap length c.clear-2.ensures.entries) in
     let long : i < length ks = omega (arith, length-take (capacity fresh) all, c.min-count.ensures, c.capacity.ensures) in
     let call-is : get_or ks i Call.Rally ≡ get_or all i Call.Rally = get_or-take (capacity fresh) all i Call.Rally (omega (arith, c.min-count.ensures, c.capacity.ensures)) in (
-      c.make-call-answer.ensures.kept ∙ c.loop-i.invariant.0,
-      one_more _ r _ ks (spare fresh) d _ (entries c.loop-i.answers) (spare c.loop-i.answers) _ _ i Call.Rally c.make-call-answer.result c.loop-i.invariant.1 long few (ap (λ p. contest_of p) c.loop-i.invariant.0) (c.make-call-answer.ensures.after ∙ ap (left_after r d) (sym call-is)) (c.make-call-answer.ensures.answer ∙ ap (answer_to r d) (sym call-is)) c.push.ensures.entries c.push.ensures.spare,
-      c.make-call-answer.ensures.same ∙ c.loop-i.invariant.2,
+      c.make_call-answer.ensures.kept ∙ c.loop-i.invariant.0,
+      one_more _ r _ ks (spare fresh) d _ (entries c.loop-i.answers) (spare c.loop-i.answers) _ _ i Call.Rally c.make_call-answer.result c.loop-i.invariant.1 long few (ap (λ p. contest_of p) c.loop-i.invariant.0) (c.make_call-answer.ensures.after ∙ ap (left_after r d) (sym call-is)) (c.make_call-answer.ensures.answer ∙ ap (answer_to r d) (sym call-is)) c.push.ensures.entries c.push.ensures.spare,
+      c.make_call-answer.ensures.same ∙ c.loop-i.invariant.2,
       c.push.ensures.same ∙ c.loop-i.invariant.3,
     )
 
