@@ -3,16 +3,16 @@ use Rattle.std.proofs.Common.{sym}
 use Rattle.embed.proofs.Places.{with_many, untouched}
 use Rattle.embed.proofs.answer_with.Goals as goal
 
-pub returns-else-is-short : goal.returns-else-is-short
-returns-else-is-short g c =
-    let first = c.score-with-result in
+pub returns-else-is_short : goal.returns-else-is_short
+returns-else-is_short g c =
+    let first = c.score_with-result in
     record {
       result = first.result;
-      scored = with_many g.row.ENTRIES g.row.CLOSINGS c.args.log.now c.args.sheet.now first.new.sheet first.result c.requires.0 c.requires.1 (sym c.if-is-short.ensures) first.ensures;
+      scored = with_many g.row.ENTRIES g.row.CLOSINGS c.args.log.now c.args.sheet.now first.new.sheet first.result c.requires.0 c.requires.1 (sym c.if-is_short.ensures) first.ensures;
       answer_is = c.tell.ensures;
     }
 
-pub returns-then-is-short : goal.returns-then-is-short
-returns-then-is-short g c =
-    let first = c.score-with-result in
-    untouched g.row.ENTRIES g.row.CLOSINGS c.args.log.now c.args.sheet.now first.new.sheet first.result (sym c.if-is-short.ensures) first.ensures
+pub returns-then-is_short : goal.returns-then-is_short
+returns-then-is_short g c =
+    let first = c.score_with-result in
+    untouched g.row.ENTRIES g.row.CLOSINGS c.args.log.now c.args.sheet.now first.new.sheet first.result (sym c.if-is_short.ensures) first.ensures

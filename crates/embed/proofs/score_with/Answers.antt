@@ -14,10 +14,10 @@ pub returns : goal.returns
 returns g c =
     record {
       entries = replicate g.row.ENTRIES (Point A);
-      entries_after = c.score-log.new.entries;
+      entries_after = c.score_log.new.entries;
       closings = replicate g.row.CLOSINGS unused;
-      closings_after = c.score-log.new.closings;
+      closings_after = c.score_log.new.closings;
       entries_are = length-replicate {A = Entry} g.row.ENTRIES (Point A);
       closings_are = length-replicate g.row.CLOSINGS unused;
-      sheet_of = c.score-log.ensures.whole;
+      sheet_of = c.score_log.ensures.whole;
     }
