@@ -1,13 +1,11 @@
 -- A log that was scored, and not for want of a place refused, comes to the same with more places for closings.
-use Rattle.std.proofs.Common.{◌≡◌, ℕ, zero, suc, ◌+◌, ◌≤◌, Bool, true, false, cond, eqb, leb, List, [], ◌∷◌, ◌++◌, length, take, drop, Some, None, Ok, Err, Option, Result, sym, refl, ap, ◌∙◌, subst, arith, length-append}
+use Rattle.std.proofs.Common.{◌≡◌, ℕ, suc, ◌+◌, ◌≤◌, Bool, true, false, cond, eqb, leb, List, [], ◌∷◌, ◌++◌, length, drop, Some, None, Ok, Err, Option, Result, sym, refl, ap, ◌∙◌, subst, arith, length-append}
 use Rattle.std.proofs.lemmas.List.{take_all}
 use Rattle.std.proofs.lemmas.Bool.{leb-true, le-leb, true≢false}
 use Rattle.contest.specs.Contests.{Play, unless_won}
 use Rattle.contest.specs.Piles.{Shape, Pile, contest_of}
 use Rattle.contest.specs.declared.side.Side.{Side}
-use Rattle.formats.specs.Table.{InFormat}
 use Rattle.formats.specs.declared.format.Format.{Format}
-use Rattle.formats.specs.declared.format.Format.TheVariants.{Game, Tennis3, Tennis5, TennisMt, Badminton, Volleyball, Table5, SideOut}
 use Rattle.rally_log.specs.declared.entry.Entry.{Entry}
 use Rattle.rally_log.specs.declared.entry.Entry.TheVariants.{Let, Point}
 use Rattle.roll.specs.Rolls.{most}
@@ -16,7 +14,6 @@ use Rattle.sheet.specs.Faults.{score_fault_number}
 use Rattle.sheet.specs.Scores.{ScoresIn, answer_to, all_closings}
 use Rattle.sheet.specs.declared.closing.Closing.{Closing}
 use Rattle.sheet.specs.declared.fault.ScoreFault.{ScoreFault}
-use Rattle.sheet.specs.declared.fault.ScoreFault.TheVariants.{NoPlace}
 use Rattle.sheet.specs.declared.score.Scored.{Scored}
 
 -- every closing had a place

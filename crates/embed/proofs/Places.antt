@@ -8,7 +8,7 @@ use Rattle.rally_log.specs.declared.entry.Entry.TheVariants.{Let}
 use Rattle.rally_log.proofs.Unique.{reads_only}
 use Rattle.roll.specs.Rolls.{most}
 use Rattle.sheet.specs.Scores.{ScoresIn}
-use Rattle.sheet.specs.Sheets.{ScoredSo, SheetOf, ReadAndScored, NotRead}
+use Rattle.sheet.specs.Sheets.{SheetOf, ReadAndScored}
 use Rattle.sheet.specs.declared.closing.Closing.{Closing}
 use Rattle.sheet.specs.declared.fault.LogFault.{LogFault}
 use Rattle.sheet.specs.declared.fault.LogFault.TheVariants.{Reading, Scoring}

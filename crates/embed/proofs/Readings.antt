@@ -1,5 +1,5 @@
 -- A log that was not refused for want of a place is read the same with more places for entries.
-use Rattle.std.proofs.Common.{◌≡◌, ℕ, ◌≤◌, Bool, true, false, eqb, ltb, List, length, Some, None, Err, Option, sym, ap, ◌∙◌, inl, inr, arith}
+use Rattle.std.proofs.Common.{◌≡◌, ℕ, ◌≤◌, Bool, true, false, eqb, ltb, List, length, Some, None, Err, ap, ◌∙◌, inl, inr, arith}
 use Rattle.std.proofs.lemmas.Bool.{ltb-true, lt-ltb, true≢false}
 use Rattle.rally_log.specs.Checks.{first_failed, entry_kind, entry_whole, entry_fields}
 use Rattle.rally_log.specs.Faults.{check_number}

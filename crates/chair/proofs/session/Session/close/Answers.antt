@@ -13,7 +13,7 @@ returns g c =
     let s = c.args.self.now in
     let d = session_state g.C.Contest.standing s in
     let reply : close_reply s.held ≡ Reply.Settled Let = search rules in
-    let after : state_of g.C.Contest.standing c.settle-let.new.self c.settle-let.new.log ≡ left_at_close d s.held = search rules in
+    let after : state_of g.C.Contest.standing c.settle_let.new.self c.settle_let.new.log ≡ left_at_close d s.held = search rules in
     record {
       kept = search rules;
       reply = search rules;
