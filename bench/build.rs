@@ -1,4 +1,4 @@
-//! Links libembed.a, from the folder CIBRADUC_LIBRARY or else from target/staticlib of the repository.
+//! Links libembed.a, from the folder CIBRADUC_LIBRARY or else from crates/embed/out of the repository.
 
 use std::env;
 use std::path::PathBuf;
@@ -7,7 +7,7 @@ fn main() {
     let folder = match env::var_os("CIBRADUC_LIBRARY") {
         Some(folder) => PathBuf::from(folder),
         None => {
-            PathBuf::from(env::var_os("CARGO_MANIFEST_DIR").unwrap()).join("../target/staticlib")
+            PathBuf::from(env::var_os("CARGO_MANIFEST_DIR").unwrap()).join("../crates/embed/out")
         }
     };
     println!("cargo:rustc-link-search=native={}", folder.display());

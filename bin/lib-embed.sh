@@ -1,6 +1,6 @@
 # shellcheck shell=sh disable=SC2154
 # Read in by bin/embed and bin/bench, which set `root` to the repository and `room` to a temporary folder.
-library=$root/target/staticlib/libembed.a
+library=$root/crates/embed/out/libembed.a
 
 # Whether the file $1 is missing or older than a file of the others named, or in them.
 stale() {
@@ -18,6 +18,6 @@ quietly() {
 build_library() {
     if stale "$library" "$root"/crates/*/src; then
         echo "$1: building the library, which takes a while the first time" >&2
-        quietly "$root" rt staticlib embed
+        quietly "$root/crates/embed" rt lib
     fi
 }

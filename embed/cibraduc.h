@@ -1,7 +1,7 @@
 /* The scorer for programs in C and C++: from the bytes of a rally log to the bytes of its score sheet.
  *
  * docs/RULES.md explains the log file, the sheet and the refusals, in sections 9, 10 and 12. The library is
- * target/staticlib/libembed.a, which `rt staticlib embed` makes, for x86-64 and the System V ABI. It has no heap and no
+ * crates/embed/out/libembed.a, which `rt lib` makes in crates/embed, for x86-64 and the System V ABI. It has no heap and no
  * input or output, and keeps nothing between calls, so threads may call it at the same time. */
 #ifndef CIBRADUC_H
 #define CIBRADUC_H
