@@ -7,6 +7,7 @@ A definition, lemma, constructor or field whose name has a dash gets underscores
 one that ends in a question mark, the same of an `Option`, begins with `option_` in its place.
 The names are read from the files, so the script turns any earlier state of the repository alike. It changes .antt files and, in .rt files, what is
 neither a comment nor a string; names of Rattle's own making (those of goals) and of the library stay. Running it again changes nothing.
+The parameters, variables and second names of VARIABLES, which no file defines at the head of a line, are turned as they are listed.
 With --list it prints each old name with its new one, and which new names fall together with another name.
 """
 
@@ -16,6 +17,13 @@ import sys
 
 # a name, alone or behind the words that make it a definition, and then its type
 DEFINED = re.compile(r"^\s*(?:(?:abbrev|unfoldable|pub|record|data|ruleset)\s+)*([^\s:(){}\[\].,;«»\"]+)(?:\s+[({].*)?\s*:(?=\s)")
+VARIABLES = {
+    name: name.replace("-", "_")
+    for name in (
+        "call-is closing-places d-is done-is entry-fault entry-places free-is given-pile hand-contest hand-standing here-won ks-are last-is "
+        "many-closings many-entries more-entries now-held rally-contest rally-standing rules-are score-fault sheet-after side-field to-do x-is"
+    ).split()
+} | {"left_After": "left_after"}
 EDGE = r"\s(){}\[\].,;«»\"∥"
 SPARED = re.compile(r'"(?:[^"\\]|\\.)*"')
 
@@ -80,8 +88,12 @@ def code_parts(line, comment):
     yield line[cut:], False
 
 
-def turned(text, names, comment):
-    pattern = re.compile(rf"(?<![^{EDGE}])(" + "|".join(sorted(map(re.escape, names), key=len, reverse=True)) + rf")(?![^{EDGE}])")
+def pattern_of(names, before):
+    return re.compile(rf"{before}(?<![^{EDGE}])(" + "|".join(sorted(map(re.escape, names), key=len, reverse=True)) + rf")(?![^{EDGE}])")
+
+
+def turned(text, names, comment, before=""):
+    pattern = pattern_of(names, before)
     lines = []
     for line in text.split("\n"):
         lines.append("".join(pattern.sub(lambda m: names[m.group(1)], part) if code else part for part, code in code_parts(line, comment)))
@@ -120,13 +132,13 @@ def main(argv):
             print(f"{name} -> {names[name]}  {found[name]}")
         together(root, found, names)
         return 0
-    if not names:
-        print("respell: nothing to do")
-        return 0
     changed = 0
     for path in files(root, (".antt", ".rt")):
         text = read(path)
-        new = turned(text, names, "--" if path.endswith(".antt") else "//")
+        comment = "--" if path.endswith(".antt") else "//"
+        new = turned(text, names, comment) if names else text
+        # a field of that name, behind a dot, is of Rattle's making
+        new = turned(new, VARIABLES, comment, r"(?<!\.)")
         if new != text:
             changed += 1
             with open(path, "w", encoding="utf-8") as f:

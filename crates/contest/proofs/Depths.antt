@@ -1,16 +1,15 @@
 -- How far down a layer has levels, and levels with a winner, from how far down the contest below has them.
 use Rattle.std.proofs.Common.{◌≡◌, ℕ, zero, suc, ◌<◌, ◌≤◌, true, is_some, Some, None, Option, sym, refl, ap, subst, arith}
-use Rattle.contest.specs.Depths.{Levels, Closed, winner_in, one_more, closed_above}
+use Rattle.contest.specs.Depths.{LevelsWithin, Closed, winner_in, one_more, closed_above}
 use Rattle.contest.specs.Goals.{winner_by}
 use Rattle.contest.specs.Layers.{Layer, Standing, layer}
 use Rattle.contest.specs.declared.side.Side.{Side}
 
 module _ {S : Type 0} (l : Layer S) (s : Standing S) where
   -- one level more
-  pub layer_levels : (n r : ℕ) → Levels l.below s.below n → r ≡ one_more n → Levels (layer l).play s r
+  pub layer_levels : (n r : ℕ) → LevelsWithin l.below s.below n → r ≡ one_more n → LevelsWithin (layer l).play s r
   layer_levels n r h e =
       record {
-        shown = λ d. elim d as (λ d. d < r → is_some ((layer l).play.level s d) ≡ true) [ zero ↦ λ k. refl | suc d ↦ λ k. h.shown d (omega arith) ];
         no_more = λ d. elim d as (λ d. r ≤ d → d < 65535 → (layer l).play.level s d ≡ None) [ zero ↦ λ j k. absurd (omega arith) | suc d ↦ λ j k. h.no_more d (omega arith) (omega arith) ];
       }
 

@@ -48,11 +48,11 @@ module _ {S : Type 0} (c : Contest S) (s : S) (ps : List Side) (i : ℕ) (here :
   refused_here o d t u r e es et h er err eu =
       let won = has_won (d.play.winner t) r er err in
       let now = et ∙ ap (λ (v : S). run c.play v (take i ps)) es in
-      let here-won = ap₂ (λ k v. k.play.winner v) (sym e) (sym now) ∙ won.1 in (
+      let here_won = ap₂ (λ k v. k.play.winner v) (sym e) (sym now) ∙ won.1 in (
         record {
           within = omega arith;
           taken = subst (λ (v : S). Taken c.play v (take i ps)) es h;
-          longest = λ n k q. stopped c.play (c.opening o) ps i n won.0 here-won k q;
+          longest = λ n k q. stopped c.play (c.opening o) ps i n won.0 here_won k q;
         },
         eu ∙ refused d t (get_or ps i A) won.0 won.1 ∙ now,
       )

@@ -1,4 +1,4 @@
--- How far down a contest has levels, and how far down it has levels with a winner. Both are counted up to 65,535.
+-- How far down a contest has levels, and how far down it has levels with a winner. Both are counted up to 65,535, which also stands for unknown.
 use Rattle.std.specs.Prelude.{◌≡◌, ℕ, zero, suc, ◌+◌, ◌<◌, ◌≤◌, min, true, is_some, Some, None, Option}
 use Rattle.contest.specs.Contests.{Play}
 use Rattle.contest.specs.declared.level.Level.{Level}
@@ -10,9 +10,8 @@ winner_in None = None
 winner_in (Some l) = l.winner
 
 module _ {S : Type 0} (p : Play S) (s : S) where
-  -- there are n levels: those at the depths below n, and no other
-  pub record Levels (n : ℕ) : Type 0 where
-    pub shown : (d : ℕ) → d < n → is_some (p.level s d) ≡ true
+  -- the levels stand at depths below n: there is none at depth n or deeper
+  pub record LevelsWithin (n : ℕ) : Type 0 where
     pub no_more : (d : ℕ) → n ≤ d → d < 65535 → p.level s d ≡ None
 
   -- the level just above depth n has a winner, if n is not 0, and no level from depth n on has one

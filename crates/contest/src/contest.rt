@@ -1,6 +1,6 @@
 ghost use Rattle.std.specs.Prelude.{◌≡◌};
 ghost use Rattle.contest.specs.Contests.{given, answered};
-ghost use Rattle.contest.specs.Depths.{Levels, Closed};
+ghost use Rattle.contest.specs.Depths.{LevelsWithin, Closed};
 ghost use Rattle.contest.specs.Piles.{Shape, StandingOf, Pile, contest_of, Sound};
 
 use crate::fault::ContestFault;
@@ -44,13 +44,19 @@ pub trait Contest {
     fn level(&self, depth: u16) -> Option<Level>
         ensures { result ≡ (contest_of (pile self.now)).play.level (standing self.now) depth };
 
-    // How many levels there are.
+    // A depth from which on there is no level, as near to the top as is known.
     fn levels(&self) -> u16
-        ensures { Levels (contest_of (pile self.now)).play (standing self.now) result };
+        ensures { LevelsWithin (contest_of (pile self.now)).play (standing self.now) result }
+    {
+        u16::MAX
+    }
 
-    // How many there are down to the deepest that has a winner; 0 where none has.
+    // How many levels there are down to the deepest that has a winner; 0 where none has, and 65,535 where it is not known.
     fn closed(&self) -> u16
-        ensures { Closed (contest_of (pile self.now)).play (standing self.now) result };
+        ensures { Closed (contest_of (pile self.now)).play (standing self.now) result }
+    {
+        u16::MAX
+    }
 
     // what it owes: the four laws at the bottom, allowed goals, fair service rules
     ghost sound: { (s : Self) → Sound (pile s) };

@@ -1,7 +1,7 @@
 ghost use Rattle.std.specs.Prelude.{◌≡◌};
 ghost use Rattle.contest.specs.Contests.{given, answered};
-ghost use Rattle.contest.specs.Depths.{Levels, Closed};
-ghost use Rattle.contest.specs.Hand.{Standing as HandStanding, hand as hand-contest, standing_of};
+ghost use Rattle.contest.specs.Depths.{LevelsWithin, Closed};
+ghost use Rattle.contest.specs.Hand.{Standing as HandStanding, hand as hand_contest, standing_of};
 ghost use Rattle.contest.specs.Piles.{bottom_of, bottom};
 ghost use Rattle.contest.specs.Plays.{Tells};
 ghost use Rattle.std.proofs.Common.{rules};
@@ -23,7 +23,7 @@ pub struct Hand {
 impl Hand {
     // A hand opened for side A.
     pub fn new() -> Hand
-        ensures { standing_of result ≡ hand-contest.opening Side.A }
+        ensures { standing_of result ≡ hand_contest.opening Side.A }
     {
         Hand {
             opener: Side::A,
@@ -34,7 +34,7 @@ impl Hand {
 
     // A hand that is opened for `opener` and given the points.
     pub fn play(opener: Side, points: &[Side], depth: u16) -> Outcome
-        ensures { Tells (bottom hand-contest) opener points.now depth result }
+        ensures { Tells (bottom hand_contest) opener points.now depth result }
     {
         let mut hand = Hand::new();
         outcome_of(&mut hand, opener, points, depth)
@@ -44,14 +44,14 @@ impl Hand {
 impl Contest for Hand {
     ghost shape = { bottom_of HandStanding };
 
-    ghost pile = { λ _. bottom hand-contest };
+    ghost pile = { λ _. bottom hand_contest };
 
     ghost standing = { standing_of };
 
     ghost sound = { Prim.search rules };
 
     fn open(&mut self, opener: Side)
-        ensures own { standing_of self.new ≡ hand-contest.opening opener }
+        ensures own { standing_of self.new ≡ hand_contest.opening opener }
     {
         self.opener = opener;
         self.server = opener;
@@ -59,7 +59,7 @@ impl Contest for Hand {
     }
 
     fn point(&mut self, side: Side) -> Result<(), ContestFault>
-        ensures own { (standing_of self.new ≡ given hand-contest (standing_of self.old) side) × (result ≡ answered (hand-contest.play.winner (standing_of self.old))) }
+        ensures own { (standing_of self.new ≡ given hand_contest (standing_of self.old) side) × (result ≡ answered (hand_contest.play.winner (standing_of self.old))) }
     {
         if self.winner.is_some() {
             return Err(ContestFault::Decided);
@@ -73,7 +73,7 @@ impl Contest for Hand {
     }
 
     fn winner(&self) -> Option<Side>
-        ensures { result ≡ hand-contest.play.winner (standing_of self.now) }
+        ensures { result ≡ hand_contest.play.winner (standing_of self.now) }
     {
         // copied whole, it would be read across the two writes of `point`, for which the processor has to wait
         match self.winner {
@@ -84,31 +84,31 @@ impl Contest for Hand {
     }
 
     fn opener(&self) -> Side
-        ensures { result ≡ hand-contest.play.opener (standing_of self.now) }
+        ensures { result ≡ hand_contest.play.opener (standing_of self.now) }
     {
         self.opener
     }
 
     fn server(&self) -> Side
-        ensures { result ≡ hand-contest.play.server (standing_of self.now) }
+        ensures { result ≡ hand_contest.play.server (standing_of self.now) }
     {
         self.server
     }
 
     fn level(&self, depth: u16) -> Option<Level>
-        ensures { result ≡ hand-contest.play.level (standing_of self.now) depth }
+        ensures { result ≡ hand_contest.play.level (standing_of self.now) depth }
     {
         None
     }
 
     fn levels(&self) -> u16
-        ensures { Levels hand-contest.play (standing_of self.now) result }
+        ensures { LevelsWithin hand_contest.play (standing_of self.now) result }
     {
         0
     }
 
     fn closed(&self) -> u16
-        ensures { Closed hand-contest.play (standing_of self.now) result }
+        ensures { Closed hand_contest.play (standing_of self.now) result }
     {
         0
     }

@@ -1,6 +1,6 @@
 ghost use Rattle.std.specs.Prelude.{◌≡◌, None};
 ghost use Rattle.contest.specs.Contests.{given, answered};
-ghost use Rattle.contest.specs.Depths.{Levels, Closed};
+ghost use Rattle.contest.specs.Depths.{LevelsWithin, Closed};
 ghost use Rattle.contest.specs.Built.{race_pile, race_standing, New, Reopened, PassedDown, Counted};
 ghost use Rattle.contest.specs.Faults.{goal_fault};
 ghost use Rattle.contest.specs.Goals.{goal, winner_by};
@@ -165,7 +165,7 @@ impl<C: Contest, P: Service> Contest for Race<C, P> {
     }
 
     fn levels(&self) -> u16
-        ensures { Levels (contest_of (race_pile C.Contest.pile P.Service.rule self.now)).play (race_standing C.Contest.standing self.now) result }
+        ensures { LevelsWithin (contest_of (race_pile C.Contest.pile P.Service.rule self.now)).play (race_standing C.Contest.standing self.now) result }
     {
         self.below.levels().saturating_add(1)
     }

@@ -1,9 +1,9 @@
 ghost use Rattle.std.specs.Prelude.{◌≡◌};
 ghost use Rattle.contest.specs.Contests.{given, answered};
-ghost use Rattle.contest.specs.Depths.{Levels, Closed};
+ghost use Rattle.contest.specs.Depths.{LevelsWithin, Closed};
 ghost use Rattle.contest.specs.Piles.{bottom_of, bottom};
 ghost use Rattle.contest.specs.Plays.{Tells};
-ghost use Rattle.contest.specs.Rally.{Standing as RallyStanding, rally as rally-contest, standing_of};
+ghost use Rattle.contest.specs.Rally.{Standing as RallyStanding, rally as rally_contest, standing_of};
 ghost use Rattle.std.proofs.Common.{rules};
 
 use crate::contest::Contest;
@@ -22,7 +22,7 @@ pub struct Rally {
 impl Rally {
     // A rally opened for side A.
     pub fn new() -> Rally
-        ensures { standing_of result ≡ rally-contest.opening Side.A }
+        ensures { standing_of result ≡ rally_contest.opening Side.A }
     {
         Rally {
             opener: Side::A,
@@ -32,7 +32,7 @@ impl Rally {
 
     // A rally that is opened for `opener` and given the points.
     pub fn play(opener: Side, points: &[Side], depth: u16) -> Outcome
-        ensures { Tells (bottom rally-contest) opener points.now depth result }
+        ensures { Tells (bottom rally_contest) opener points.now depth result }
     {
         let mut rally = Rally::new();
         outcome_of(&mut rally, opener, points, depth)
@@ -42,21 +42,21 @@ impl Rally {
 impl Contest for Rally {
     ghost shape = { bottom_of RallyStanding };
 
-    ghost pile = { λ _. bottom rally-contest };
+    ghost pile = { λ _. bottom rally_contest };
 
     ghost standing = { standing_of };
 
     ghost sound = { Prim.search rules };
 
     fn open(&mut self, opener: Side)
-        ensures own { standing_of self.new ≡ rally-contest.opening opener }
+        ensures own { standing_of self.new ≡ rally_contest.opening opener }
     {
         self.opener = opener;
         self.winner = None;
     }
 
     fn point(&mut self, side: Side) -> Result<(), ContestFault>
-        ensures own { (standing_of self.new ≡ given rally-contest (standing_of self.old) side) × (result ≡ answered (rally-contest.play.winner (standing_of self.old))) }
+        ensures own { (standing_of self.new ≡ given rally_contest (standing_of self.old) side) × (result ≡ answered (rally_contest.play.winner (standing_of self.old))) }
     {
         if self.winner.is_some() {
             return Err(ContestFault::Decided);
@@ -66,7 +66,7 @@ impl Contest for Rally {
     }
 
     fn winner(&self) -> Option<Side>
-        ensures { result ≡ rally-contest.play.winner (standing_of self.now) }
+        ensures { result ≡ rally_contest.play.winner (standing_of self.now) }
     {
         // copied whole, it would be read across the two writes of `point`, for which the processor has to wait
         match self.winner {
@@ -77,31 +77,31 @@ impl Contest for Rally {
     }
 
     fn opener(&self) -> Side
-        ensures { result ≡ rally-contest.play.opener (standing_of self.now) }
+        ensures { result ≡ rally_contest.play.opener (standing_of self.now) }
     {
         self.opener
     }
 
     fn server(&self) -> Side
-        ensures { result ≡ rally-contest.play.server (standing_of self.now) }
+        ensures { result ≡ rally_contest.play.server (standing_of self.now) }
     {
         self.opener
     }
 
     fn level(&self, depth: u16) -> Option<Level>
-        ensures { result ≡ rally-contest.play.level (standing_of self.now) depth }
+        ensures { result ≡ rally_contest.play.level (standing_of self.now) depth }
     {
         None
     }
 
     fn levels(&self) -> u16
-        ensures { Levels rally-contest.play (standing_of self.now) result }
+        ensures { LevelsWithin rally_contest.play (standing_of self.now) result }
     {
         0
     }
 
     fn closed(&self) -> u16
-        ensures { Closed rally-contest.play (standing_of self.now) result }
+        ensures { Closed rally_contest.play (standing_of self.now) result }
     {
         0
     }

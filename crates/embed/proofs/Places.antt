@@ -19,11 +19,11 @@ use Rattle.embed.proofs.Closings.{short, with_more_closings}
 use Rattle.embed.proofs.Formats.{one_pile}
 use Rattle.embed.proofs.Readings.{with_more_entries}
 
-module _ (bytes : List ℕ) (entries more-entries : List Entry) (closings more_closings : List Closing) (sheet : List ℕ) (entries_after : List Entry) (closings_after : List Closing) (after : List ℕ)
-    (j : most [] entries ≤ most [] more-entries) (k : most [] closings ≤ most [] more_closings) where
+module _ (bytes : List ℕ) (entries more_entries : List Entry) (closings more_closings : List Closing) (sheet : List ℕ) (entries_after : List Entry) (closings_after : List Closing) (after : List ℕ)
+    (j : most [] entries ≤ most [] more_entries) (k : most [] closings ≤ most [] more_closings) where
   -- the log was read and scored: what the places then hold
   read_and_scored : (r : Result Scored ScoreFault) → short r ≡ false → (s : ReadAndScored bytes entries closings sheet entries_after closings_after after r)
-      → ReadAndScored bytes more-entries more_closings sheet (s.log ++ drop (length s.log) more-entries) (s.scores.held ++ drop (length s.scores.held) more_closings) after r
+      → ReadAndScored bytes more_entries more_closings sheet (s.log ++ drop (length s.log) more_entries) (s.scores.held ++ drop (length s.scores.held) more_closings) after r
   read_and_scored r q s =
       let so = s.scores in
       let held = so.held in
@@ -51,20 +51,20 @@ module _ (bytes : List ℕ) (entries more-entries : List Entry) (closings more_c
   pub record Elsewhere (r : Result Scored LogFault) : Type 0 where
     pub entries_then : List Entry
     pub closings_then : List Closing
-    pub sheet_of : SheetOf bytes more-entries more_closings sheet entries_then closings_then after r
+    pub sheet_of : SheetOf bytes more_entries more_closings sheet entries_then closings_then after r
 
   pub elsewhere : (r : Result Scored LogFault) → short_of_places r ≡ false → SheetOf bytes entries closings sheet entries_after closings_after after r → Elsewhere r
   elsewhere (Ok s) q k = record { entries_then = _; closings_then = _; sheet_of = read_and_scored (Ok s) refl k }
   elsewhere (Err (Scoring f)) q k = record { entries_then = _; closings_then = _; sheet_of = read_and_scored (Err f) q k }
   elsewhere (Err (Reading f)) q k =
-      let reads = with_more_entries bytes (most [] entries) (most [] more-entries) f k.held j q k.reads in
+      let reads = with_more_entries bytes (most [] entries) (most [] more_entries) f k.held j q k.reads in
       record {
-        entries_then = k.held ++ drop (length k.held) more-entries;
+        entries_then = k.held ++ drop (length k.held) more_entries;
         closings_then = more_closings;
         sheet_of = record {
           held = k.held;
           reads = reads;
-          only = reads_only bytes (most [] more-entries) (Err f) k.held reads;
+          only = reads_only bytes (most [] more_entries) (Err f) k.held reads;
           entries_are = refl;
           closings_are = refl;
           sheet_is = k.sheet_is;
@@ -79,17 +79,17 @@ pub with_many : (e c : ℕ) (log sheet after : List ℕ) (r : Result Scored LogF
 with_many e c log sheet after r j k q s =
     let es : List Entry = replicate 30000 Let in
     let cs = replicate 4000 unused in
-    let many-entries = length-replicate {A = Entry} 30000 Let in
-    let many-closings = length-replicate 4000 unused in
+    let many_entries = length-replicate {A = Entry} 30000 Let in
+    let many_closings = length-replicate 4000 unused in
     let there = elsewhere log s.entries es s.closings cs sheet s.entries_after s.closings_after after
-    (omega (arith, many-entries, s.entries_are)) (omega (arith, many-closings, s.closings_are)) r q s.sheet_of in
+    (omega (arith, many_entries, s.entries_are)) (omega (arith, many_closings, s.closings_are)) r q s.sheet_of in
     record {
       entries = es;
       entries_after = there.entries_then;
       closings = cs;
       closings_after = there.closings_then;
-      entries_are = many-entries;
-      closings_are = many-closings;
+      entries_are = many_entries;
+      closings_are = many_closings;
       sheet_of = there.sheet_of;
     }
 

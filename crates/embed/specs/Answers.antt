@@ -26,17 +26,17 @@ short_of_places (Ok s) = false
 short_of_places (Err f) = log_fault_number f == 9
 
 -- the log was read and scored into the caller's bytes, with so many places for its entries and for its closings
-pub record ScoredWith (entry-places closing-places : ℕ) (log sheet sheet-after : List ℕ) (result : Result Scored LogFault) : Type 0 where
+pub record ScoredWith (entry_places closing_places : ℕ) (log sheet sheet_after : List ℕ) (result : Result Scored LogFault) : Type 0 where
   pub entries : List Entry
   pub entries_after : List Entry
   pub closings : List Closing
   pub closings_after : List Closing
-  pub entries_are : length entries ≡ entry-places
-  pub closings_are : length closings ≡ closing-places
-  pub sheet_of : SheetOf log entries closings sheet entries_after closings_after sheet-after result
+  pub entries_are : length entries ≡ entry_places
+  pub closings_are : length closings ≡ closing_places
+  pub sheet_of : SheetOf log entries closings sheet entries_after closings_after sheet_after result
 
 -- that with 30,000 places for entries and 4,000 for closings, and what was told of it
-pub record Scores (log sheet sheet-after : List ℕ) (answer : SheetAnswer) : Type 0 where
+pub record Scores (log sheet sheet_after : List ℕ) (answer : SheetAnswer) : Type 0 where
   pub result : Result Scored LogFault
-  pub scored : ScoredWith 30000 4000 log sheet sheet-after result
+  pub scored : ScoredWith 30000 4000 log sheet sheet_after result
   pub answer_is : answer ≡ told result

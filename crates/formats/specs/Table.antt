@@ -2,18 +2,18 @@
 use Rattle.std.specs.Prelude.{ℕ}
 use Rattle.contest.specs.Service.{Rule, stay, turn, to_winner, carry, pairs, twos}
 use Rattle.contest.specs.Goals.{goal}
-use Rattle.contest.specs.Rally.{Standing as RallyStanding, rally as rally-contest}
-use Rattle.contest.specs.Hand.{Standing as HandStanding, hand as hand-contest}
+use Rattle.contest.specs.Rally.{Standing as RallyStanding, rally as rally_contest}
+use Rattle.contest.specs.Hand.{Standing as HandStanding, hand as hand_contest}
 use Rattle.formats.specs.declared.format.Format.{Format}
 use Rattle.formats.specs.declared.format.Format.TheVariants.{Game, Tennis3, Tennis5, TennisMt, Badminton, Volleyball, Table5, SideOut}
 use Rattle.contest.specs.Piles.{Shape, bottom_of, race_of, switch_of, Pile, bottom, raced, switched}
 
 -- the contests at the bottom
 abbrev pub rally : Pile (bottom_of RallyStanding)
-rally = bottom rally-contest
+rally = bottom rally_contest
 
 abbrev pub hand : Pile (bottom_of HandStanding)
-hand = bottom hand-contest
+hand = bottom hand_contest
 
 abbrev pub R : {h : Shape} → ℕ → ℕ → ℕ → Rule → Pile h → Pile (race_of h)
 R n m c r p = raced (goal n m c) r p

@@ -3,7 +3,7 @@ use Rattle.std.specs.Prelude.{ℕ}
 use Rattle.rally_log.specs.Faults.{check_number}
 use Rattle.roll.specs.Rolls.{full_number}
 use Rattle.sheet.specs.declared.fault.EntryFault.{EntryFault}
-use Rattle.sheet.specs.declared.fault.EntryFault.TheVariants as entry-fault
+use Rattle.sheet.specs.declared.fault.EntryFault.TheVariants as entry_fault
 use Rattle.sheet.specs.declared.fault.LogFault.{LogFault}
 use Rattle.sheet.specs.declared.fault.LogFault.TheVariants.{Reading, Scoring}
 use Rattle.sheet.specs.declared.fault.ScoreFault.{ScoreFault}
@@ -11,8 +11,8 @@ use Rattle.sheet.specs.declared.fault.ScoreFault.TheVariants.{Code, AfterEnd, No
 
 -- the fault of the entry at an index
 abbrev pub fault_at : EntryFault → ℕ → ScoreFault
-fault_at entry-fault.AfterEnd i = AfterEnd i
-fault_at entry-fault.NoPlace i = NoPlace i
+fault_at entry_fault.AfterEnd i = AfterEnd i
+fault_at entry_fault.NoPlace i = NoPlace i
 
 abbrev pub score_fault_number : ScoreFault → ℕ
 score_fault_number Code = 13

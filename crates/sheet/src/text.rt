@@ -2,7 +2,7 @@ ghost use Rattle.std.specs.Prelude.{◌≡◌, ◌+◌, ◌%◌, ◌^◌, ◌<�
 ghost use Rattle.contest.specs.Piles.{contest_of};
 ghost use Rattle.roll.specs.Rolls.{entries};
 ghost use Rattle.sheet.specs.Sinks.{Puts};
-ghost use Rattle.sheet.specs.Text.{counts, side as side-field, match_line, closing_line, totals_line, open_field, open_fields, spaced, last_line, text_of};
+ghost use Rattle.sheet.specs.Text.{counts, side as side_field, match_line, closing_line, totals_line, open_field, open_fields, spaced, last_line, text_of};
 ghost use Rattle.std.specs.List.{flat_map};
 
 use crate::closing::Closing;
@@ -63,7 +63,7 @@ fn put_counts<S: Sink>(sink: &mut S, a: u16, b: u16)
 }
 
 fn put_side<S: Sink>(sink: &mut S, side: Side)
-    ensures { Puts S.Sink.takes sink.old (side-field side) sink.new }
+    ensures { Puts S.Sink.takes sink.old (side_field side) sink.new }
 {
     sink.put(match side {
         Side::A => b'A',

@@ -46,12 +46,12 @@ module _ {S : Type 0} where
       let free = place_free u k in
       let leaves : left_after_all r c (drop i calls) ≡ left_after_all r (left_after r c call) rest = at_drop_more (left_after_all r c) calls i past h in
       let tells : answers_to r c (drop i calls) ≡ answer_to r c call ∷ answers_to r (left_after r c call) rest = at_drop_more (answers_to r c) calls i past h in
-      let d-is : d ≡ left_after r c call = after ∙ ap (λ q. left_after q c call) by in
-      let x-is : x ≡ answer_to r c call = answer ∙ ap (λ q. answer_to q c call) by in
+      let d_is : d ≡ left_after r c call = after ∙ ap (λ q. left_after q c call) by in
+      let x_is : x ≡ answer_to r c call = answer ∙ ap (λ q. answer_to q c call) by in
       let told_is : told' ≡ told ++ (x ∷ []) = keeps ∙ ap (pushed told x) free in
       record {
-        leaves = ap (λ z. left_after_all r z rest) d-is ∙ sym leaves ∙ u.leaves;
-        tells = ap (λ ys. ys ++ answers_to r d rest) told_is ∙ append_assoc told (x ∷ []) (answers_to r d rest) ∙ ap₂ (λ y z. told ++ (y ∷ answers_to r z rest)) x-is d-is ∙ ap (λ all. told ++ all) (sym tells) ∙ u.tells;
+        leaves = ap (λ z. left_after_all r z rest) d_is ∙ sym leaves ∙ u.leaves;
+        tells = ap (λ ys. ys ++ answers_to r d rest) told_is ∙ append_assoc told (x ∷ []) (answers_to r d rest) ∙ ap₂ (λ y z. told ++ (y ∷ answers_to r z rest)) x_is d_is ∙ ap (λ all. told ++ all) (sym tells) ∙ u.tells;
         count = omega (arith, ap length told_is, length-append told (x ∷ []), u.count);
         rest = uses ∙ ap (used left) free ∙ ap (drop 1) u.rest ∙ drop-drop 1 i places;
       }

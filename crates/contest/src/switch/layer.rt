@@ -1,6 +1,6 @@
 ghost use Rattle.std.specs.Prelude.{◌≡◌, None};
 ghost use Rattle.contest.specs.Contests.{given, answered};
-ghost use Rattle.contest.specs.Depths.{Levels, Closed};
+ghost use Rattle.contest.specs.Depths.{LevelsWithin, Closed};
 ghost use Rattle.contest.specs.Built.{switch_pile, switch_standing, New, Reopened, OpenedBelow, PassedDown, Counted};
 ghost use Rattle.contest.specs.Faults.{switch_fault};
 ghost use Rattle.contest.specs.Goals.{goal, winner_by};
@@ -90,7 +90,7 @@ impl<C: Contest, D: Contest, P: Service> Switch<C, D, P> {
     }
 
     fn levels_below(&self) -> u16
-        ensures { Levels (switch_layer (switch_pile C.Contest.pile D.Contest.pile P.Service.rule self.now)).below (switch_standing C.Contest.standing D.Contest.standing self.now).below result }
+        ensures { LevelsWithin (switch_layer (switch_pile C.Contest.pile D.Contest.pile P.Service.rule self.now)).below (switch_standing C.Contest.standing D.Contest.standing self.now).below result }
     {
         if self.decides {
             self.deciding.levels()
@@ -237,7 +237,7 @@ impl<C: Contest, D: Contest, P: Service> Contest for Switch<C, D, P> {
     }
 
     fn levels(&self) -> u16
-        ensures { Levels (contest_of (switch_pile C.Contest.pile D.Contest.pile P.Service.rule self.now)).play (switch_standing C.Contest.standing D.Contest.standing self.now) result }
+        ensures { LevelsWithin (contest_of (switch_pile C.Contest.pile D.Contest.pile P.Service.rule self.now)).play (switch_standing C.Contest.standing D.Contest.standing self.now) result }
     {
         self.levels_below().saturating_add(1)
     }
