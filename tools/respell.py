@@ -20,7 +20,7 @@ DEFINED = re.compile(r"^\s*(?:(?:abbrev|unfoldable|pub|record|data|ruleset)\s+)*
 VARIABLES = {
     name: name.replace("-", "_")
     for name in (
-        "call-is closing-places d-is done-is entry-fault entry-places free-is given-pile hand-contest hand-standing here-won ks-are last-is "
+        "call-is closing-places closings-after d-is done-is entries-after entry-fault entry-places free-is given-pile hand-contest hand-standing here-won ks-are last-is "
         "many-closings many-entries more-entries now-held rally-contest rally-standing rules-are score-fault sheet-after side-field to-do x-is"
     ).split()
 } | {"left_After": "left_after"}
