@@ -156,9 +156,5 @@ fn run(rt: &HostRuntime) -> anyhow::Result<()> {
 }
 
 fn main(rt: HostRuntime) -> anyhow::Result<()> {
-    let ended = run(&rt);
-    if let Err(error) = &ended {
-        let _ = eprintln!(rt; "chair: {error}");
-    }
-    ended
+    run(&rt)
 }
