@@ -1,12 +1,22 @@
 -- The two sides, and what the mirror makes of them.
 use Rattle.contest.specs.declared.side.Side.{Side}
 use Rattle.contest.specs.declared.side.Side.TheVariants.{A, B}
+use Rattle.contest.specs.declared.side.NoSide.{NoSide}
 use Rattle.contest.specs.declared.level.Level.{Level}
-use Rattle.std.specs.Prelude.{Some, None, Option}
+use Rattle.std.specs.Prelude.{◌≡◌, ◌≢◌, ℕ, Some, None, Option, Result, MatchResult}
 
 abbrev pub opposite : Side → Side
 opposite A = B
 opposite B = A
+
+-- the letter of a side: `A` or `B`
+abbrev pub letter : Side → ℕ
+letter A = 65
+letter B = 66
+
+-- r is the side that is written x, or no side is
+abbrev pub ReadsSide : {X : Type 0} → (Side → X) → X → Result Side NoSide → Type 0
+ReadsSide written x r = MatchResult r (λ side. x ≡ written side) (λ _. (side : Side) → x ≢ written side)
 
 -- a side or nobody, in the mirror
 abbrev pub option_opposite : Option Side → Option Side

@@ -1,7 +1,7 @@
 -- What a program in C is told of a log.
 use Rattle.std.specs.Prelude.{◌≡◌, ℕ, Bool, false, List, length, Some, None, Ok, Err, Option, Result, ◌==◌}
 use Rattle.contest.specs.declared.side.Side.{Side}
-use Rattle.rally_log.specs.Written.{letter}
+use Rattle.contest.specs.Sides.{letter}
 use Rattle.rally_log.specs.declared.entry.Entry.{Entry}
 use Rattle.sheet.specs.Faults.{log_fault_number, log_fault_place}
 use Rattle.sheet.specs.Sheets.{SheetOf}

@@ -7,7 +7,7 @@ use Rattle.contest.specs.declared.side.Side.{Side}
 use Rattle.contest.specs.declared.side.Side.TheVariants.{A, B}
 use Rattle.formats.specs.Formats.{name_of}
 use Rattle.rally_log.specs.Entries.{points_in, lets_in, count_of}
-use Rattle.rally_log.specs.Written.{letter}
+use Rattle.contest.specs.Sides.{letter}
 use Rattle.rally_log.specs.declared.entry.Entry.{Entry}
 use Rattle.sheet.specs.declared.closing.Closing.{Closing}
 use Rattle.sheet.specs.declared.text.Heading.{Heading}
