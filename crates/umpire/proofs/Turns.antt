@@ -1,23 +1,23 @@
 -- The loop of `play`: one call more, and its end.
-use Rattle.std.proofs.Common.{◌≡◌, ℕ, ◌+◌, ◌<◌, min, true, List, [], ◌∷◌, ◌++◌, length, get_or, drop, Some, None, Option, sym, refl, ap, ◌∙◌, ap₂, arith}
+use Rattle.std.proofs.Common.{◌≡◌, ℕ, ◌+◌, ◌<◌, min, true, List, [], ◌∷◌, ◌++◌, length, get_or, drop, Some, None, Option, Ok, Err, Result, sym, refl, ap, ◌∙◌, ap₂, arith}
 use Rattle.std.proofs.lemmas.List.{append-nil, append_assoc, length-append, length-drop, at_drop_more, at_drop_all, drop-drop}
 use Rattle.std.proofs.lemmas.Bool.{lt-ltb}
+use Rattle.std.proofs.lemmas.Grind.{common_steps}
+use Rattle.std.specs.Result.{MatchResult, IsErrAnd}
+use Rattle.umpire.specs.declared.rally.Unsettled.{Unsettled}
 use Rattle.contest.specs.Contests.{Contest}
 use Rattle.roll.specs.Rolls.{room, pushed, used}
-use Rattle.umpire.specs.Calls.{State, left_after, left_after_all, answer_to, answers_to, answer_unless, call_result, call_answer, settle_result, settle_answer}
+use Rattle.umpire.specs.Calls.{State, left_after, left_after_all, answer_to, answers_to, answer_unless, settle_result, settle_answer}
 use Rattle.umpire.specs.declared.calls.Call.{Call}
 use Rattle.umpire.specs.declared.calls.Answer.{Answer}
 use Rattle.umpire.specs.declared.rally.Rally.{Rally}
 use Rattle.umpire.specs.declared.rally.RallyNumbers.{RallyNumbers}
 use Rattle.umpire.specs.declared.rally.CallFault.{CallFault}
 
-pub answer_called : (t : RallyNumbers) (o : Option CallFault) → call_answer (call_result t o) ≡ answer_unless (Answer.Called t) o
-answer_called t (Some f) = refl
-answer_called t None = refl
-
-pub answer_settled : (q : Rally) (o : Option CallFault) → settle_answer (settle_result q o) ≡ answer_unless Answer.Settled o
-answer_settled q (Some f) = refl
-answer_settled q None = refl
+-- a settling's answer, where a rally that came back is spent
+pub settled_told : (q : Rally) (o : Option CallFault) (res : Result Unit Unsettled) (left : Result Unit CallFault) → res ≡ settle_result q o → MatchResult res (λ u. left ≡ Ok u) (λ e. IsErrAnd left (λ f. f ≡ e.fault)) → settle_answer left ≡ answer_unless Answer.Settled o
+settled_told q (Some f) res left e h = grind (arith, common_steps)
+settled_told q None res left e h = grind (arith, common_steps)
 
 module _ {S : Type 0} where
   pub same_state : (c d : State S) → c.number ≡ d.number → c.pile ≡ d.pile → c.totals ≡ d.totals → c.log ≡ d.log → c.spare ≡ d.spare → c ≡ d

@@ -1,5 +1,5 @@
--- The numbers by which calls are refused.
-use Rattle.std.specs.Prelude.{ℕ}
+-- The numbers by which calls are refused, and their words.
+use Rattle.std.specs.Prelude.{ℕ, List, codes}
 use Rattle.umpire.specs.declared.rally.CallFault.{CallFault}
 use Rattle.umpire.specs.declared.rally.CallFault.TheVariants.{Decided, RallyOpen, LogCount, LogFull, OtherRally}
 
@@ -9,3 +9,10 @@ call_fault_number RallyOpen = 7
 call_fault_number LogCount = 8
 call_fault_number LogFull = 9
 call_fault_number OtherRally = 10
+
+abbrev pub call_fault_words : CallFault → List ℕ
+call_fault_words Decided = codes "there is a winner"
+call_fault_words RallyOpen = codes "a rally is open"
+call_fault_words LogCount = codes "the log is not this match's"
+call_fault_words LogFull = codes "the log is full"
+call_fault_words OtherRally = codes "it is not the open rally"

@@ -1,6 +1,10 @@
+ghost use Rattle.std.specs.Prelude.{◌≡◌, ◌+◌, ◌<◌};
+ghost use Rattle.umpire.specs.Calls.{call_answer, settle_answer, one_settled};
+
 use crate::rally::{CallFault, RallyNumbers};
 use contest::level::Level;
 use contest::side::Side;
+use rally_log::entry::Entry;
 
 // What a match has counted.
 #[derive(Clone, Copy)]
@@ -54,4 +58,47 @@ pub enum Answer {
 pub struct Played<C> {
     pub pile: C,
     pub totals: Totals,
+}
+
+impl Totals {
+    // The rallies settled: the points and the lets.
+    pub(crate) fn settled(&self) -> usize
+        ensures { result ≡ self.now.a + self.now.b + self.now.lets }
+    {
+        usize::from(self.a) + usize::from(self.b) + usize::from(self.lets)
+    }
+
+    // Counts the open rally, which is settled so.
+    pub(crate) fn count(&mut self, outcome: Entry)
+        requires { self.old.a + self.old.b + self.old.lets < 65535 }
+        ensures { self.new ≡ one_settled self.old outcome }
+    {
+        match outcome {
+            Entry::Let => self.lets += 1,
+            Entry::Point(Side::A) => self.a += 1,
+            Entry::Point(Side::B) => self.b += 1,
+        }
+        self.in_play = None;
+    }
+}
+
+// What calling gave: the numbers of the rally, or the refusal.
+impl From<Result<RallyNumbers, CallFault>> for Answer {
+    ghost from_gives = { λ res answer. answer ≡ call_answer res };
+
+    fn from(res: Result<RallyNumbers, CallFault>) -> Answer {
+        res.map_or_else(Answer::Refused, Answer::Called)
+    }
+}
+
+// What settling gave: nothing, or the refusal.
+impl From<Result<(), CallFault>> for Answer {
+    ghost from_gives = { λ res answer. answer ≡ settle_answer res };
+
+    fn from(res: Result<(), CallFault>) -> Answer {
+        match res {
+            Ok(()) => Answer::Settled,
+            Err(fault) => Answer::Refused(fault),
+        }
+    }
 }

@@ -1,8 +1,11 @@
 ghost use Rattle.std.specs.Prelude.{◌≡◌, ◌+◌, ◌≤◌};
 ghost use Rattle.umpire.specs.Sums.{while_open};
 
+use crate::calls::Totals;
+
 pub mod asking;
 pub mod calling;
+mod checking;
 pub mod opening;
 pub mod settling;
 
@@ -11,16 +14,9 @@ pub mod settling;
 pub struct Match<C> {
     number: u16,
     pile: C,
-    // the rallies called
-    called: u16,
-    // the points of each side
-    a: u16,
-    b: u16,
-    lets: u16,
-    // the number of the open rally, if one is open
-    in_play: Option<u16>,
+    totals: Totals,
     // the rallies called are those settled, and one more while a rally is open
-    ghost sum: { called ≡ a + b + lets + while_open in_play },
+    ghost sum: { totals.called ≡ totals.a + totals.b + totals.lets + while_open totals.in_play },
     // no log holds more entries
-    ghost few: { a + b + lets ≤ 30000 },
+    ghost few: { totals.a + totals.b + totals.lets ≤ 30000 },
 }

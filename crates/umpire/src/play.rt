@@ -1,49 +1,15 @@
 ghost use Rattle.std.specs.Prelude.{◌≡◌};
-ghost use Rattle.umpire.specs.Calls.{answer_to, left_after, settle_answer, call_answer};
+ghost use Rattle.umpire.specs.Calls.{answer_to, left_after};
 ghost use Rattle.umpire.specs.Matches.{WholeMatch};
 ghost use Rattle.umpire.specs.States.{state_of, rules_of};
 
 use crate::calls::{Answer, Call, Played};
 use crate::matches::Match;
-use crate::rally::{CallFault, Rally, RallyNumbers, Unsettled};
+use crate::rally::{Rally, Unsettled};
 use contest::contest::Contest;
 use contest::side::Side;
 use rally_log::entry::Entry;
 use roll::Roll;
-
-// What calling gave, as an answer: the rally is spent, and its numbers are told.
-fn call_answer(res: Result<Rally, CallFault>) -> Answer
-    ensures { result ≡ call_answer res }
-{
-    match res {
-        Ok(
-            Rally {
-                match_number,
-                number,
-            },
-        ) => Answer::Called(RallyNumbers {
-            match_number,
-            number,
-        }),
-        Err(fault) => Answer::Refused(fault),
-    }
-}
-
-// What settling gave, as an answer: a rally that comes back is spent.
-fn settle_answer(res: Result<(), Unsettled>) -> Answer
-    ensures { result ≡ settle_answer res }
-{
-    match res {
-        Ok(()) => Answer::Settled,
-        Err(Unsettled { rally, fault }) => {
-            let Rally {
-                match_number: _,
-                number: _,
-            } = rally;
-            Answer::Refused(fault)
-        }
-    }
-}
 
 // Makes one call. A rally to be settled is made from its numbers.
 fn make_call<C: Contest>(ongoing: &mut Match<C>, log: &mut Roll<Entry>, call: Call) -> Answer
@@ -53,22 +19,15 @@ fn make_call<C: Contest>(ongoing: &mut Match<C>, log: &mut Roll<Entry>, call: Ca
     ensures after { state_of C.Contest.standing ongoing.new log.new ≡ left_after (rules_of C.Contest.pile ongoing.old) (state_of C.Contest.standing ongoing.old log.old) call }
 {
     match call {
-        Call::Rally => call_answer(ongoing.call(log)),
-        Call::Point(side, numbers) => settle_answer(ongoing.settle_point(
-            log,
-            Rally {
-                match_number: numbers.match_number,
-                number: numbers.number,
-            },
-            side,
-        )),
-        Call::Let(numbers) => settle_answer(ongoing.settle_let(
-            log,
-            Rally {
-                match_number: numbers.match_number,
-                number: numbers.number,
-            },
-        )),
+        Call::Rally => ongoing.call(log).map(Rally::spend).into(),
+        Call::Point(side, numbers) => {
+            let res = ongoing.settle_point(log, Rally::new(numbers), side);
+            res.map_err(Unsettled::spend).into()
+        }
+        Call::Let(numbers) => {
+            let res = ongoing.settle_let(log, Rally::new(numbers));
+            res.map_err(Unsettled::spend).into()
+        }
         Call::Winner => Answer::Winner(ongoing.winner()),
         Call::Server => Answer::Server(ongoing.server()),
         Call::Level(depth) => Answer::Level(ongoing.level(depth)),
@@ -91,9 +50,9 @@ pub fn play<C: Contest>(
     log.clear();
     answers.clear();
     let mut ongoing = Match::new(number, pile, opener);
-    let count = calls.len().min(answers.capacity());
-    for i in 0..count {
-        let answer = make_call(&mut ongoing, log, calls[i]);
+    let count = answers.capacity().min(calls.len());
+    for call in &calls[..count] {
+        let answer = make_call(&mut ongoing, log, *call);
         let _ = answers.push(answer);
     }
     let totals = ongoing.totals();

@@ -1,12 +1,11 @@
-ghost use Rattle.std.specs.Prelude.{◌≡◌};
-ghost use Rattle.umpire.specs.Calls.{numbers_of};
-ghost use Rattle.umpire.specs.Faults.{call_fault_number};
+ghost use Rattle.std.specs.Prelude.{◌≡◌, Some};
+ghost use Rattle.umpire.specs.Calls.{numbers_of, rally_with};
+ghost use Rattle.umpire.specs.Faults.{call_fault_number, call_fault_words};
+ghost use Rattle.umpire.specs.declared.rally.CallFault.TheVariants.{Decided};
 
-// A rally that was called and is still to be settled: it can be neither copied nor dropped.
-pub struct Rally {
-    pub(crate) match_number: u16,
-    pub(crate) number: u16,
-}
+use contest::fault::ContestFault;
+use std::error::Error;
+use std::fmt;
 
 // A rally by its numbers: that of its match, and its own, counted from 1.
 #[derive(Clone, Copy)]
@@ -15,19 +14,24 @@ pub struct RallyNumbers {
     pub number: u16,
 }
 
+// A rally that was called and is still to be settled: it can be neither copied nor dropped.
+pub struct Rally {
+    numbers: RallyNumbers,
+}
+
 // Why a call is refused.
 #[derive(Clone, Copy, PartialEq, Eq, Debug)]
 pub enum CallFault {
     // There is a winner.
-    Decided,
+    Decided = 6,
     // A rally is open.
-    RallyOpen,
+    RallyOpen = 7,
     // The log does not hold as many entries as the match has points and lets.
-    LogCount,
+    LogCount = 8,
     // The log has no free place.
-    LogFull,
+    LogFull = 9,
     // It is not the open rally of this match.
-    OtherRally,
+    OtherRally = 10,
 }
 
 // A rally that could not be settled, handed back, and why.
@@ -37,14 +41,37 @@ pub struct Unsettled {
 }
 
 impl Rally {
+    // The rally of these numbers. Only a match makes one.
+    pub(crate) fn new(numbers: RallyNumbers) -> Rally
+        ensures { result ≡ rally_with numbers }
+    {
+        Rally { numbers }
+    }
+
     // Its numbers.
     pub fn numbers(&self) -> RallyNumbers
         ensures { result ≡ numbers_of self.now }
     {
-        RallyNumbers {
-            match_number: self.match_number,
-            number: self.number,
-        }
+        self.numbers
+    }
+
+    // Spends the rally: its numbers are left. It is no public conversion, by which a rally could be let go unsettled.
+    pub(crate) fn spend(self) -> RallyNumbers
+        ensures { result ≡ numbers_of self }
+    {
+        let Rally { numbers } = self;
+        numbers
+    }
+}
+
+impl Unsettled {
+    // Spends the rally that came back: the refusal is left.
+    pub(crate) fn spend(self) -> CallFault
+        ensures { result ≡ self.fault }
+    {
+        let Unsettled { rally, fault } = self;
+        let _ = rally.spend();
+        fault
     }
 }
 
@@ -53,12 +80,33 @@ impl CallFault {
     pub fn number(self) -> u8
         ensures { result ≡ call_fault_number self }
     {
-        match self {
-            CallFault::Decided => 6,
-            CallFault::RallyOpen => 7,
-            CallFault::LogCount => 8,
-            CallFault::LogFull => 9,
-            CallFault::OtherRally => 10,
+        self as u8
+    }
+}
+
+// A point that the pile refuses: there is a winner.
+impl From<ContestFault> for CallFault {
+    ghost from_gives = { λ _ fault. fault ≡ Decided };
+
+    fn from(fault: ContestFault) -> CallFault {
+        match fault {
+            ContestFault::Decided => CallFault::Decided,
         }
     }
 }
+
+impl fmt::Display for CallFault {
+    ghost output = { λ fault. Some (call_fault_words fault) };
+
+    fn fmt<W: fmt::Write>(&self, f: &mut fmt::Formatter<W>) -> fmt::Result {
+        f.write_str(match self {
+            CallFault::Decided => "there is a winner",
+            CallFault::RallyOpen => "a rally is open",
+            CallFault::LogCount => "the log is not this match's",
+            CallFault::LogFull => "the log is full",
+            CallFault::OtherRally => "it is not the open rally",
+        })
+    }
+}
+
+impl Error for CallFault {}

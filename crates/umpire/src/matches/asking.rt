@@ -33,12 +33,6 @@ impl<C: Contest> Match<C> {
     pub fn totals(&self) -> Totals
         ensures { result ≡ totals_of self.now }
     {
-        Totals {
-            called: self.called,
-            a: self.a,
-            b: self.b,
-            lets: self.lets,
-            in_play: self.in_play,
-        }
+        self.totals
     }
 }

@@ -4,7 +4,7 @@ ghost use Rattle.umpire.specs.States.{state_of, rules_of};
 ghost use Rattle.umpire.specs.declared.calls.Call.TheVariants.{Rally as RallyCall};
 
 use super::Match;
-use crate::rally::{CallFault, Rally};
+use crate::rally::{CallFault, Rally, RallyNumbers};
 use contest::contest::Contest;
 use rally_log::entry::Entry;
 use roll::Roll;
@@ -20,21 +20,16 @@ impl<C: Contest> Match<C> {
         if self.pile.winner().is_some() {
             return Err(CallFault::Decided);
         }
-        if self.in_play.is_some() {
+        if self.totals.in_play.is_some() {
             return Err(CallFault::RallyOpen);
         }
-        if log.len() != self.a as usize + self.b as usize + self.lets as usize {
-            return Err(CallFault::LogCount);
-        }
-        if log.is_full() {
-            return Err(CallFault::LogFull);
-        }
-        let number = self.called + 1;
-        self.called = number;
-        self.in_play = Some(number);
-        Ok(Rally {
+        self.check_log(log)?;
+        let number = self.totals.called + 1;
+        self.totals.called = number;
+        self.totals.in_play = Some(number);
+        Ok(Rally::new(RallyNumbers {
             match_number: self.number,
             number,
-        })
+        }))
     }
 }

@@ -4,6 +4,7 @@ ghost use Rattle.umpire.specs.Calls.{none_yet};
 ghost use Rattle.umpire.specs.States.{totals_of};
 
 use super::Match;
+use crate::calls::Totals;
 use contest::contest::Contest;
 use contest::side::Side;
 
@@ -16,14 +17,17 @@ impl<C: Contest> Match<C> {
         ensures totals { totals_of result ≡ none_yet }
     {
         pile.open(opener);
-        Match {
-            number,
-            pile,
+        let totals = Totals {
             called: 0,
             a: 0,
             b: 0,
             lets: 0,
             in_play: None,
+        };
+        Match {
+            number,
+            pile,
+            totals,
         }
     }
 
@@ -31,15 +35,7 @@ impl<C: Contest> Match<C> {
     pub fn end(self) -> C
         ensures { result ≡ self.pile }
     {
-        let Match {
-            number: _,
-            pile,
-            called: _,
-            a: _,
-            b: _,
-            lets: _,
-            in_play: _,
-        } = self;
+        let Match { pile, .. } = self;
         pile
     }
 }
