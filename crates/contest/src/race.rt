@@ -7,7 +7,6 @@ ghost use Rattle.contest.specs.Goals.{winner_by};
 ghost use Rattle.contest.specs.Layers.{next_opener};
 ghost use Rattle.contest.specs.Piles.{contest_of, race_of, raced, race_layer};
 ghost use Rattle.contest.specs.Plays.{Plays};
-ghost use Rattle.contest.specs.GoalsLemmas.{no_goal_fault};
 
 use crate::contest::Contest;
 use crate::depth::closed_above;
@@ -100,12 +99,7 @@ impl<C: Contest, P: Service> Contest for Race<C, P> {
 
     ghost standing = { race_standing C.Contest.standing };
 
-    ghost sound = { λ s.
-        let t = s.tally in (
-          no_goal_fault t.goal (t.some_lead, t.lead_within, t.target_within, t.cap_within),
-          P.Service.fair s.service,
-          C.Contest.sound s.below,
-        ) };
+    ghost sound = { λ s. (s.tally.allowed, P.Service.fair s.service, C.Contest.sound s.below) };
 
     fn open(&mut self, opener: Side)
         ensures own { (race_pile C.Contest.pile P.Service.rule self.new ≡ race_pile C.Contest.pile P.Service.rule self.old) × (race_standing C.Contest.standing self.new ≡ (contest_of (race_pile C.Contest.pile P.Service.rule self.old)).opening opener) }

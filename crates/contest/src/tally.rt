@@ -2,6 +2,7 @@ ghost use Rattle.std.specs.Prelude.{◌≡◌, ◌+◌, ◌<◌, ◌≤◌, ◌�
 ghost use Rattle.contest.specs.Faults.{goal_fault, threshold_allowed};
 ghost use Rattle.contest.specs.Goals.{Wins, reaches, winner_by, none_yet, tallied};
 ghost use Rattle.contest.specs.Layers.{own_level};
+ghost use Rattle.contest.specs.GoalsLemmas.{Within};
 
 use crate::counts::Counts;
 use crate::fault::RuleFault;
@@ -14,13 +15,8 @@ use crate::side::Side;
 pub(crate) struct Tally {
     goal: Goal,
     counts: Counts,
-    ghost some_lead: { 1 ≤ goal.lead },
-    ghost lead_within: { goal.lead ≤ goal.target },
-    ghost target_within: { goal.target ≤ goal.cap },
-    ghost cap_within: { goal.cap ≤ 9999 },
-    ghost a_within: { counts.a ≤ goal.cap },
-    ghost b_within: { counts.b ≤ goal.cap },
-    ghost not_both: { counts.a + counts.b < goal.cap + goal.cap },
+    ghost allowed: { goal_fault goal ≡ None },
+    ghost within: { Within goal counts },
 }
 
 impl Tally {

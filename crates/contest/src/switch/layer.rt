@@ -173,12 +173,11 @@ impl<C: Contest, D: Contest, P: Service> Contest for Switch<C, D, P> {
 
     ghost standing = { switch_standing C.Contest.standing D.Contest.standing };
 
-    ghost sound = { λ s.
-        let t = s.tally in (
-          no_switch_fault t.goal s.threshold (t.some_lead, t.lead_within, t.target_within, t.cap_within) s.allowed,
-          P.Service.fair s.service,
-          C.Contest.sound s.ordinary,
-          D.Contest.sound s.deciding,
+    ghost sound = { λ s. (
+        no_switch_fault s.tally.goal s.threshold s.tally.allowed s.allowed,
+        P.Service.fair s.service,
+        C.Contest.sound s.ordinary,
+        D.Contest.sound s.deciding,
         ) };
 
     fn open(&mut self, opener: Side)
