@@ -1,5 +1,5 @@
 -- What follows where a check does not refuse; and that a rally just called is refused by no settling.
-use Rattle.std.proofs.Common.{◌≡◌, ℕ, ◌+◌, Bool, true, false, eqb, length, Some, None, Option, refl, ap, ap₂, arith}
+use Rattle.std.proofs.Common.{◌≡◌, ℕ, ◌+◌, Bool, true, false, eqb, length, Some, None, Option, refl, ap, ap₂}
 use Rattle.std.proofs.lemmas.Bool.{eq-eqb, and_from}
 use Rattle.contest.specs.Contests.{Contest}
 use Rattle.contest.specs.declared.side.Side.{Side}

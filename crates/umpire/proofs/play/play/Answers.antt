@@ -3,7 +3,7 @@ use Rattle.std.proofs.Common.{◌≡◌, ◌<◌, min, length, take, drop, sym, 
 use Rattle.std.proofs.lemmas.List.{length-append, length-take, take_min}
 use Rattle.contest.specs.Piles.{StandingOf, contest_of}
 use Rattle.roll.specs.Rolls.{entries, spare, capacity}
-use Rattle.umpire.specs.Calls.{State, left_after, left_after_all, answer_to, answers_to, opened}
+use Rattle.umpire.specs.Calls.{State, left_after_all, answers_to, opened}
 use Rattle.umpire.specs.Matches.{made}
 use Rattle.umpire.specs.States.{state_of, end_state, places_of}
 use Rattle.umpire.specs.declared.calls.Call.{Call}
