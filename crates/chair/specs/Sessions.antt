@@ -37,7 +37,7 @@ settling (Point x) t = Call.Point x t
 
 -- the rally of these numbers
 abbrev pub rally_of : RallyNumbers → Rally
-rally_of t = record { match_number = t.match_number; number = t.number }
+rally_of t = record { numbers = t }
 
 -- the first of two, where there is a refusal, else the second
 abbrev pub if_refused : {X : Type 0} → Option CallFault → X → X → X

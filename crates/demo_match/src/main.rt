@@ -18,11 +18,7 @@ fn lead_rally<C: Contest>(
 ) -> Result<u16, CallFault> {
     let rally = ongoing.call(log)?;
     let number = rally.numbers().number;
-    let settled = match outcome {
-        Entry::Let => ongoing.settle_let(log, rally),
-        Entry::Point(side) => ongoing.settle_point(log, rally, side),
-    };
-    match settled {
+    match ongoing.settle(log, rally, outcome) {
         Ok(()) => Ok(number),
         Err(_unsettled) => unreachable(),
     }
@@ -45,23 +41,16 @@ fn main(rt: HostRuntime) -> io::Result<()> {
         match lead_rally(&mut ongoing, &mut log, outcome) {
             Ok(number) => {
                 if let Some(level) = ongoing.level(0) {
-                    let a = level.a;
-                    let b = level.b;
-                    println!(rt; "rally {number}: {a} to {b}")?;
+                    println!(rt; "rally {number}: {} to {}", level.a, level.b)?;
                 }
             }
-            Err(fault) => {
-                let number = fault.number();
-                println!(rt; "refused {number}")?;
-            }
+            Err(fault) => println!(rt; "refused {}", fault.number())?,
         }
     }
     let totals = ongoing.totals();
-    let called = totals.called;
-    let lets = totals.lets;
-    println!(rt; "{called} rallies, {lets} let")?;
+    println!(rt; "{} rallies, {} let", totals.called, totals.lets)?;
     match ongoing.winner() {
-        Some(side) => println!(rt; "winner {side:?}"),
+        Some(side) => println!(rt; "winner {side}"),
         None => println!(rt; "no winner"),
     }
 }

@@ -61,7 +61,7 @@ not_true false h = refl
 module _ {S : Type 0} where
   pub names_is : (c : State S) (t : RallyNumbers) (o : Option ℕ) → names_open c t o ≡ true → (t.match_number ≡ c.number) × (o ≡ Some t.number)
   names_is c t (Some n) e = let both = and_parts (eqb t.match_number c.number) (eqb t.number n) e in (eqb-true _ _ both.0, ap Some (sym (eqb-true _ _ both.1)))
-  names_is c t None e = let z : ◌≡◌ {A = ℕ} 0 1 = cc in absurd (omega arith)
+  names_is c t None e = absurd (cc)
 
   pub names_from : (c : State S) (t : RallyNumbers) (o : Option ℕ) → t.match_number ≡ c.number → o ≡ Some t.number → names_open c t o ≡ true
   names_from c t o m e = ap (names_open c t) e ∙ and_from (eqb t.match_number c.number) (eqb t.number t.number) (eq-eqb _ _ m) (eq-eqb t.number t.number refl)
@@ -89,11 +89,11 @@ module _ {S : Type 0} (r : Contest S) where
   one_settled_open c (Call.Let u) t s e m n =
       let same : u ≡ t = cc in
       ap (answer_unless Answer.Settled) (ap (settle_refusal c) same ∙ settle_free c t s m n)
-  one_settled_open c Call.Rally t s e m n = let z : ◌≡◌ {A = ℕ} 0 1 = cc in absurd (omega arith)
-  one_settled_open c Call.Winner t s e m n = let z : ◌≡◌ {A = ℕ} 0 1 = cc in absurd (omega arith)
-  one_settled_open c Call.Server t s e m n = let z : ◌≡◌ {A = ℕ} 0 1 = cc in absurd (omega arith)
-  one_settled_open c (Call.Level d) t s e m n = let z : ◌≡◌ {A = ℕ} 0 1 = cc in absurd (omega arith)
-  one_settled_open c Call.Totals t s e m n = let z : ◌≡◌ {A = ℕ} 0 1 = cc in absurd (omega arith)
+  one_settled_open c Call.Rally t s e m n = absurd (cc)
+  one_settled_open c Call.Winner t s e m n = absurd (cc)
+  one_settled_open c Call.Server t s e m n = absurd (cc)
+  one_settled_open c (Call.Level d) t s e m n = absurd (cc)
+  one_settled_open c Call.Totals t s e m n = absurd (cc)
 
   one_other_refused : (c : State S) (k : Call) (t : RallyNumbers) → handed_in k ≡ Some t → (t.match_number ≡ c.number → c.totals.in_play ≡ Some t.number → ⊥) → answer_to r c k ≡ Answer.Refused OtherRally
   one_other_refused c (Call.Point x u) t e h =
@@ -103,11 +103,11 @@ module _ {S : Type 0} (r : Contest S) where
   one_other_refused c (Call.Let u) t e h =
       let same : u ≡ t = cc in
       ap (answer_unless Answer.Settled) (ap (settle_refusal c) same ∙ settle_other c t h)
-  one_other_refused c Call.Rally t e h = let z : ◌≡◌ {A = ℕ} 0 1 = cc in absurd (omega arith)
-  one_other_refused c Call.Winner t e h = let z : ◌≡◌ {A = ℕ} 0 1 = cc in absurd (omega arith)
-  one_other_refused c Call.Server t e h = let z : ◌≡◌ {A = ℕ} 0 1 = cc in absurd (omega arith)
-  one_other_refused c (Call.Level d) t e h = let z : ◌≡◌ {A = ℕ} 0 1 = cc in absurd (omega arith)
-  one_other_refused c Call.Totals t e h = let z : ◌≡◌ {A = ℕ} 0 1 = cc in absurd (omega arith)
+  one_other_refused c Call.Rally t e h = absurd (cc)
+  one_other_refused c Call.Winner t e h = absurd (cc)
+  one_other_refused c Call.Server t e h = absurd (cc)
+  one_other_refused c (Call.Level d) t e h = absurd (cc)
+  one_other_refused c Call.Totals t e h = absurd (cc)
 
 module _ {S : Type 0} (r : Contest S) (laws : Laws r) (number : ℕ) (o : Side) (places : List Entry) where
   abbrev fresh : State S

@@ -214,7 +214,7 @@ module _ {S : Type 0} (r : Contest S) where
     lets_logged = omega (arith, h.lets_logged, lets_append c.log (Let ∷ []));
     unwon = λ z. absurd (omega arith);
     placed = λ z. absurd (omega arith);
-    newest = λ n z. let w : ◌≡◌ {A = ℕ} 0 1 = cc in absurd (omega arith);
+    newest = λ n z. absurd (cc);
   }
 
   consistent_point : (c : State S) (x : Side) → Consistent c → while_open c.totals.in_play ≡ 1 → Consistent (point_settled r c x)
@@ -225,7 +225,7 @@ module _ {S : Type 0} (r : Contest S) where
     lets_logged = omega (arith, h.lets_logged, lets_append c.log (Point A ∷ []));
     unwon = λ z. absurd (omega arith);
     placed = λ z. absurd (omega arith);
-    newest = λ n z. let w : ◌≡◌ {A = ℕ} 0 1 = cc in absurd (omega arith);
+    newest = λ n z. absurd (cc);
   }
   consistent_point c B h k = record {
     sum = omega (arith, h.sum);
@@ -234,7 +234,7 @@ module _ {S : Type 0} (r : Contest S) where
     lets_logged = omega (arith, h.lets_logged, lets_append c.log (Point B ∷ []));
     unwon = λ z. absurd (omega arith);
     placed = λ z. absurd (omega arith);
-    newest = λ n z. let w : ◌≡◌ {A = ℕ} 0 1 = cc in absurd (omega arith);
+    newest = λ n z. absurd (cc);
   }
 
   pub consistent_after : (c : State S) (k : Call) → Consistent c → Consistent (left_after r c k)
@@ -262,12 +262,12 @@ module _ {S : Type 0} (r : Contest S) where
     lets_logged = refl;
     unwon = λ _. laws.opening_fair.open_winner o;
     placed = λ z. absurd (omega arith);
-    newest = λ n z. let w : ◌≡◌ {A = ℕ} 0 1 = cc in absurd (omega arith);
+    newest = λ n z. absurd (cc);
   }
 
   -- the answer at an index is that of what the calls before left
   pub told_at : (c : State S) (ks : List Call) (i : ℕ) (k : Call) → at ks i ≡ Some k → at (answers_to r c ks) i ≡ Some (answer_to r (left_after_all r c (take i ks)) k)
-  told_at c [] i k e = let w : ◌≡◌ {A = ℕ} 0 1 = cc in absurd (omega arith)
+  told_at c [] i k e = absurd (cc)
   told_at c (j ∷ ks) zero k e = let same : j ≡ k = cc in ap (λ z. Some (answer_to r c z)) same
   told_at c (j ∷ ks) (suc i) k e = told_at (left_after r c j) ks i k e
 

@@ -23,10 +23,10 @@ module _ {X : Type 0} where
   -- two lists that agree so far, and at the next place
   agree_more : (xs ys : List X) (i : ℕ) → take i xs ≡ take i ys → at xs i ≡ at ys i → take (suc i) xs ≡ take (suc i) ys
   agree_more [] [] i e f = refl
-  agree_more [] (y ∷ ys) zero e f = let z : ◌≡◌ {A = ℕ} 0 1 = cc in absurd (omega arith)
-  agree_more [] (y ∷ ys) (suc i) e f = let z : ◌≡◌ {A = ℕ} 0 1 = cc in absurd (omega arith)
-  agree_more (x ∷ xs) [] zero e f = let z : ◌≡◌ {A = ℕ} 0 1 = cc in absurd (omega arith)
-  agree_more (x ∷ xs) [] (suc i) e f = let z : ◌≡◌ {A = ℕ} 0 1 = cc in absurd (omega arith)
+  agree_more [] (y ∷ ys) zero e f = absurd (cc)
+  agree_more [] (y ∷ ys) (suc i) e f = absurd (cc)
+  agree_more (x ∷ xs) [] zero e f = absurd (cc)
+  agree_more (x ∷ xs) [] (suc i) e f = absurd (cc)
   agree_more (x ∷ xs) (y ∷ ys) zero e f = let same : x ≡ y = cc in ap (λ z. z ∷ []) same
   agree_more (x ∷ xs) (y ∷ ys) (suc i) e f =
       let same : x ≡ y = cc in
@@ -36,8 +36,8 @@ module _ {X : Type 0} where
   -- past the end of one list lies past the end of another that is as long
   past_both : {Y : Type 0} (xs : List X) (ys : List Y) (i : ℕ) → length xs ≡ length ys → at ys i ≡ None → at xs i ≡ None
   past_both [] ys i e f = refl
-  past_both (x ∷ xs) [] i e f = let z : ◌≡◌ {A = ℕ} 0 1 = omega arith in absurd (omega arith)
-  past_both (x ∷ xs) (y ∷ ys) zero e f = let z : ◌≡◌ {A = ℕ} 0 1 = cc in absurd (omega arith)
+  past_both (x ∷ xs) [] i e f = absurd (omega arith)
+  past_both (x ∷ xs) (y ∷ ys) zero e f = absurd (cc)
   past_both (x ∷ xs) (y ∷ ys) (suc i) e f = past_both xs ys i (omega arith) f
 
 -- what the first calls bring follows from their answers
@@ -88,7 +88,7 @@ module _ {S : Type 0} (r : Contest S) (number : ℕ) (o : Side) (places : List E
         let both = names_is (opened r number o places) t (counted_before ks xs i).in_play f in
         p.open_settled i k t c h both.0 both.1 ∙ sym (q.open_settled i k t c h both.0 (sym same_open ∙ both.1))
     same_handed k t false c h f =
-        let other : t.match_number ≡ number → (counted_before ks xs i).in_play ≡ Some t.number → ⊥ = λ m n. let yes = names_from (opened r number o places) t (counted_before ks xs i).in_play m n in let z : ◌≡◌ {A = ℕ} 0 1 = cc in omega arith in
+        let other : t.match_number ≡ number → (counted_before ks xs i).in_play ≡ Some t.number → ⊥ = λ m n. let yes = names_from (opened r number o places) t (counted_before ks xs i).in_play m n in cc in
         p.other_refused i k t c h other ∙ sym (q.other_refused i k t c h (λ m n. other m (same_open ∙ n)))
 
     same_at : (k : Option Call) → at ks i ≡ k → at xs i ≡ at ys i

@@ -1,5 +1,5 @@
 -- The loop of `play`: one call more, and its end.
-use Rattle.std.proofs.Common.{◌≡◌, ℕ, ◌+◌, ◌<◌, min, true, List, [], ◌∷◌, ◌++◌, length, get_or, drop, Some, None, Option, Ok, Err, Result, sym, refl, ap, ◌∙◌, ap₂, arith}
+use Rattle.std.proofs.Common.{◌≡◌, ℕ, ◌+◌, ◌<◌, min, true, List, [], ◌∷◌, ◌++◌, length, get_or, drop, Some, None, Option, Ok, Result, sym, refl, ap, ◌∙◌, ap₂, arith}
 use Rattle.std.proofs.lemmas.List.{append-nil, append_assoc, length-append, length-drop, at_drop_more, at_drop_all, drop-drop}
 use Rattle.std.proofs.lemmas.Bool.{lt-ltb}
 use Rattle.std.proofs.lemmas.Grind.{common_steps}
@@ -11,7 +11,6 @@ use Rattle.umpire.specs.Calls.{State, left_after, left_after_all, answer_to, ans
 use Rattle.umpire.specs.declared.calls.Call.{Call}
 use Rattle.umpire.specs.declared.calls.Answer.{Answer}
 use Rattle.umpire.specs.declared.rally.Rally.{Rally}
-use Rattle.umpire.specs.declared.rally.RallyNumbers.{RallyNumbers}
 use Rattle.umpire.specs.declared.rally.CallFault.{CallFault}
 
 -- a settling's answer, where a rally that came back is spent

@@ -1,5 +1,5 @@
 -- Refusals that no list of calls meets, from a match just opened.
-use Rattle.std.proofs.Common.{◌≡◌, ℕ, zero, suc, ◌+◌, Bool, true, false, eqb, List, [], ◌∷◌, length, Some, None, Option, sym, refl, ap, ◌∙◌, arith}
+use Rattle.std.proofs.Common.{◌≡◌, ℕ, zero, suc, ◌+◌, Bool, true, false, eqb, List, [], ◌∷◌, length, Some, None, Option, sym, refl, ap, ◌∙◌}
 use Rattle.std.proofs.lemmas.Bool.{eq-eqb}
 use Rattle.contest.specs.Contests.{Contest}
 use Rattle.contest.specs.declared.side.Side.{Side}
@@ -19,44 +19,44 @@ first_then f (Some g) y h k e = h e
 first_then f None y h k e = k refl e
 
 pub not_none : (f : CallFault) → ◌≡◌ {A = Option CallFault} None (Some f) → ⊥
-not_none f e = let z : ◌≡◌ {A = ℕ} 0 1 = cc in omega arith
+not_none f e = cc
 
 full_no_count : (b : Bool) → refused_unless b LogFull ≡ Some LogCount → ⊥
 full_no_count true e = not_none LogCount e
-full_no_count false e = let z : ◌≡◌ {A = ℕ} 0 1 = cc in omega arith
+full_no_count false e = cc
 
 other_no_count : (b : Bool) → refused_unless b OtherRally ≡ Some LogCount → ⊥
 other_no_count true e = not_none LogCount e
-other_no_count false e = let z : ◌≡◌ {A = ℕ} 0 1 = cc in omega arith
+other_no_count false e = cc
 
 won_no_count : (w : Option Side) → refused_if_won w ≡ Some LogCount → ⊥
-won_no_count (Some x) e = let z : ◌≡◌ {A = ℕ} 0 1 = cc in omega arith
+won_no_count (Some x) e = cc
 won_no_count None e = not_none LogCount e
 
 open_no_count : (o : Option ℕ) → refused_if_open o ≡ Some LogCount → ⊥
-open_no_count (Some x) e = let z : ◌≡◌ {A = ℕ} 0 1 = cc in omega arith
+open_no_count (Some x) e = cc
 open_no_count None e = not_none LogCount e
 
 full_no_won : (b : Bool) → refused_unless b LogFull ≡ Some Decided → ⊥
 full_no_won true e = not_none Decided e
-full_no_won false e = let z : ◌≡◌ {A = ℕ} 0 1 = cc in omega arith
+full_no_won false e = cc
 
 other_no_won : (b : Bool) → refused_unless b OtherRally ≡ Some Decided → ⊥
 other_no_won true e = not_none Decided e
-other_no_won false e = let z : ◌≡◌ {A = ℕ} 0 1 = cc in omega arith
+other_no_won false e = cc
 
 count_no_won : (b : Bool) → refused_unless b LogCount ≡ Some Decided → ⊥
 count_no_won true e = not_none Decided e
-count_no_won false e = let z : ◌≡◌ {A = ℕ} 0 1 = cc in omega arith
+count_no_won false e = cc
 
 -- an answer that is a refusal comes from a fault
 called_refused : (t : RallyNumbers) (o : Option CallFault) (f : CallFault) → answer_unless (Answer.Called t) o ≡ Answer.Refused f → o ≡ Some f
 called_refused t (Some g) f e = cc
-called_refused t None f e = let z : ◌≡◌ {A = ℕ} 0 1 = cc in absurd (omega arith)
+called_refused t None f e = absurd (cc)
 
 pub settled_refused : (o : Option CallFault) (f : CallFault) → answer_unless Answer.Settled o ≡ Answer.Refused f → o ≡ Some f
 settled_refused (Some g) f e = cc
-settled_refused None f e = let z : ◌≡◌ {A = ℕ} 0 1 = cc in absurd (omega arith)
+settled_refused None f e = absurd (cc)
 
 module _ {S : Type 0} (r : Contest S) where
   log_no_count : (c : State S) → Consistent r c → log_refusal c ≡ Some LogCount → ⊥
@@ -76,13 +76,13 @@ module _ {S : Type 0} (r : Contest S) where
       first_then LogCount _ (refused_if_won (r.play.winner c.pile)) (settle_no_count c t h) (λ _. won_no_count (r.play.winner c.pile))
       (settled_refused (point_refusal r c t) LogCount e)
   one_no_count c (Call.Let t) h e = settle_no_count c t h (settled_refused (settle_refusal c t) LogCount e)
-  one_no_count c Call.Winner h e = let z : ◌≡◌ {A = ℕ} 0 1 = cc in omega arith
-  one_no_count c Call.Server h e = let z : ◌≡◌ {A = ℕ} 0 1 = cc in omega arith
-  one_no_count c (Call.Level d) h e = let z : ◌≡◌ {A = ℕ} 0 1 = cc in omega arith
-  one_no_count c Call.Totals h e = let z : ◌≡◌ {A = ℕ} 0 1 = cc in omega arith
+  one_no_count c Call.Winner h e = cc
+  one_no_count c Call.Server h e = cc
+  one_no_count c (Call.Level d) h e = cc
+  one_no_count c Call.Totals h e = cc
 
   pub never_count : (c : State S) (ks : List Call) → Consistent r c → (i : ℕ) → at (answers_to r c ks) i ≡ Some (Answer.Refused LogCount) → ⊥
-  never_count c [] h i e = let z : ◌≡◌ {A = ℕ} 0 1 = cc in omega arith
+  never_count c [] h i e = cc
   never_count c (k ∷ ks) h zero e = let same : answer_to r c k ≡ Answer.Refused LogCount = cc in one_no_count c k h same
   never_count c (k ∷ ks) h (suc i) e = never_count (left_after r c k) ks (consistent_after r c k h) i e
 
@@ -99,7 +99,7 @@ module _ {S : Type 0} (r : Contest S) where
       (settled_refused (point_refusal r c t) Decided e)
 
   pub never_decided : (c : State S) (ks : List Call) → Consistent r c → (i : ℕ) (x : Side) (t : RallyNumbers) → at ks i ≡ Some (Call.Point x t) → at (answers_to r c ks) i ≡ Some (Answer.Refused Decided) → ⊥
-  never_decided c [] h i x t e f = let z : ◌≡◌ {A = ℕ} 0 1 = cc in omega arith
+  never_decided c [] h i x t e f = cc
   never_decided c (k ∷ ks) h zero x t e f =
       let same : k ≡ Call.Point x t = cc in
       let told : answer_to r c k ≡ Answer.Refused Decided = cc in

@@ -30,28 +30,21 @@ mirrored_entry (Point x) = Point (opposite x)
 
 -- the points of A and of B change places
 abbrev pub mirrored_totals : Totals → Totals
-mirrored_totals t = record { called = t.called; a = t.b; b = t.a; lets = t.lets; in_play = t.in_play }
+mirrored_totals t = record t { a = t.b; b = t.a }
 
 -- the number is kept
 abbrev pub mirrored_shown : Shown → Shown
 mirrored_shown s = record { number = s.number; winner = option_opposite s.winner; server = opposite s.server; level = λ d. option_swapped (s.level d); totals = mirrored_totals s.totals; log = map mirrored_entry s.log }
 
--- a point is given to the opposite side; the rally that is handed in is kept
+-- a point is given to the opposite side; the rally that is handed in is kept, and so is any other call
 abbrev pub mirrored_call : Call → Call
-mirrored_call Call.Rally = Call.Rally
 mirrored_call (Call.Point x t) = Call.Point (opposite x) t
-mirrored_call (Call.Let t) = Call.Let t
-mirrored_call Call.Winner = Call.Winner
-mirrored_call Call.Server = Call.Server
-mirrored_call (Call.Level d) = Call.Level d
-mirrored_call Call.Totals = Call.Totals
+mirrored_call other = other
 
--- the rally that is called and the refusal are kept
+-- sides and totals are mirrored; the rally that is called and the refusal are kept
 abbrev pub mirrored_answer : Answer → Answer
-mirrored_answer (Answer.Called t) = Answer.Called t
-mirrored_answer Answer.Settled = Answer.Settled
-mirrored_answer (Answer.Refused f) = Answer.Refused f
 mirrored_answer (Answer.Winner w) = Answer.Winner (option_opposite w)
 mirrored_answer (Answer.Server x) = Answer.Server (opposite x)
 mirrored_answer (Answer.Level l) = Answer.Level (option_swapped l)
 mirrored_answer (Answer.Totals t) = Answer.Totals (mirrored_totals t)
+mirrored_answer other = other

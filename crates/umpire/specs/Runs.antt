@@ -13,12 +13,7 @@ use Rattle.umpire.specs.declared.rally.RallyNumbers.{RallyNumbers}
 -- xs, where the answer is no refusal
 abbrev pub if_granted : {X : Type 0} → Answer → List X → List X
 if_granted (Answer.Refused f) xs = []
-if_granted (Answer.Called t) xs = xs
-if_granted Answer.Settled xs = xs
-if_granted (Answer.Winner w) xs = xs
-if_granted (Answer.Server x) xs = xs
-if_granted (Answer.Level l) xs = xs
-if_granted (Answer.Totals t) xs = xs
+if_granted _ xs = xs
 
 -- what the calls that were not refused bring, in order
 abbrev pub granted : {X : Type 0} → (Call → List X) → List Call → List Answer → List X
@@ -28,43 +23,25 @@ granted brings (k ∷ ks) (a ∷ told) = if_granted a (brings k) ++ granted brin
 
 -- the point that a call gives, if it gives one
 abbrev pub point_of : Call → List Side
-point_of Call.Rally = []
 point_of (Call.Point x t) = x ∷ []
-point_of (Call.Let t) = []
-point_of Call.Winner = []
-point_of Call.Server = []
-point_of (Call.Level d) = []
-point_of Call.Totals = []
+point_of _ = []
 
 -- what a call makes of a rally, if it settles one
 abbrev pub entry_of : Call → List Entry
-entry_of Call.Rally = []
 entry_of (Call.Point x t) = Point x ∷ []
 entry_of (Call.Let t) = Let ∷ []
-entry_of Call.Winner = []
-entry_of Call.Server = []
-entry_of (Call.Level d) = []
-entry_of Call.Totals = []
+entry_of _ = []
 
 -- the call itself, if it calls a rally
 abbrev pub rally_of : Call → List Call
 rally_of Call.Rally = Call.Rally ∷ []
-rally_of (Call.Point x t) = []
-rally_of (Call.Let t) = []
-rally_of Call.Winner = []
-rally_of Call.Server = []
-rally_of (Call.Level d) = []
-rally_of Call.Totals = []
+rally_of _ = []
 
 -- the numbers of the rally that a call hands in, if it hands one in
 abbrev pub handed_in : Call → Option RallyNumbers
-handed_in Call.Rally = None
 handed_in (Call.Point x t) = Some t
 handed_in (Call.Let t) = Some t
-handed_in Call.Winner = None
-handed_in Call.Server = None
-handed_in (Call.Level d) = None
-handed_in Call.Totals = None
+handed_in _ = None
 
 -- the points taken, in order
 abbrev pub taken : List Call → List Answer → List Side

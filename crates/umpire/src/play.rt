@@ -1,7 +1,7 @@
 ghost use Rattle.std.specs.Prelude.{◌≡◌};
 ghost use Rattle.umpire.specs.Calls.{answer_to, left_after};
 ghost use Rattle.umpire.specs.Matches.{WholeMatch};
-ghost use Rattle.umpire.specs.States.{state_of, rules_of};
+ghost use Rattle.umpire.specs.States.{state_of, rules_of, Steps};
 
 use crate::calls::{Answer, Call, Played};
 use crate::matches::Match;
@@ -13,10 +13,8 @@ use roll::Roll;
 
 // Makes one call. A rally to be settled is made from its numbers.
 fn make_call<C: Contest>(ongoing: &mut Match<C>, log: &mut Roll<Entry>, call: Call) -> Answer
-    ensures same { log.new.places.ghost_name ≡ log.old.places.ghost_name }
-    ensures kept { C.Contest.pile ongoing.new.pile ≡ C.Contest.pile ongoing.old.pile }
     ensures answer { result ≡ answer_to (rules_of C.Contest.pile ongoing.old) (state_of C.Contest.standing ongoing.old log.old) call }
-    ensures after { state_of C.Contest.standing ongoing.new log.new ≡ left_after (rules_of C.Contest.pile ongoing.old) (state_of C.Contest.standing ongoing.old log.old) call }
+    ensures steps { Steps C.Contest.pile C.Contest.standing ongoing.old log.old ongoing.new log.new (λ r c. left_after r c call) }
 {
     match call {
         Call::Rally => ongoing.call(log).map(Rally::spend).into(),

@@ -25,15 +25,16 @@ fn a_let_and_a_point(rt: HostRuntime) {
         Call::Totals,
     ];
     let played = play(7, Rally::new(), Side::A, &mut log, &calls, &mut answers);
-    assert!(rt; played.totals.called == 2);
-    assert!(rt; played.totals.a == 1 && played.totals.b == 0);
-    assert!(rt; played.totals.lets == 1);
-    assert!(rt; log.len() == 2);
-    assert!(rt; answers.len() == 7);
-    assert!(rt; refusal(answers.get(3)) == 7);
-    assert!(rt; refusal(answers.get(4)) == 10);
-    assert!(rt; refusal(answers.get(5)) == 0);
-    assert!(rt; refusal(answers.get(6)) == 6);
+    assert_eq!(rt; played.totals.called, 2);
+    assert_eq!(rt; played.totals.a, 1);
+    assert_eq!(rt; played.totals.b, 0);
+    assert_eq!(rt; played.totals.lets, 1);
+    assert_eq!(rt; log.len(), 2);
+    assert_eq!(rt; answers.len(), 7);
+    assert_eq!(rt; refusal(answers.get(3)), Some(7));
+    assert_eq!(rt; refusal(answers.get(4)), Some(10));
+    assert_eq!(rt; refusal(answers.get(5)), None);
+    assert_eq!(rt; refusal(answers.get(6)), Some(6));
 }
 
 // A log with one place, and then a log that another match may have written.
@@ -42,10 +43,10 @@ fn logs_that_are_refused(rt: HostRuntime) {
     let mut places = [Entry::Let; 1];
     let mut log = Roll::new(&mut places);
     let mut ongoing = Match::new(7, Rally::new(), Side::A);
-    assert!(rt; number(ongoing.call_and_settle(&mut log, Entry::Let)) == 0);
-    assert!(rt; number(ongoing.call_and_settle(&mut log, Entry::Let)) == 9);
+    assert_eq!(rt; number(ongoing.call_and_settle(&mut log, Entry::Let)), None);
+    assert_eq!(rt; number(ongoing.call_and_settle(&mut log, Entry::Let)), Some(9));
     log.clear();
-    assert!(rt; number(ongoing.call_and_settle(&mut log, Entry::Let)) == 8);
+    assert_eq!(rt; number(ongoing.call_and_settle(&mut log, Entry::Let)), Some(8));
 }
 
 fn numbers(match_number: u16, number: u16) -> RallyNumbers {
@@ -55,17 +56,14 @@ fn numbers(match_number: u16, number: u16) -> RallyNumbers {
     }
 }
 
-// The number of a refusal, or 0.
-fn refusal(answer: Option<Answer>) -> u8 {
+// The number of a refusal, if it is one.
+fn refusal(answer: Option<Answer>) -> Option<u8> {
     match answer {
-        Some(Answer::Refused(fault)) => fault.number(),
-        _ => 0,
+        Some(Answer::Refused(fault)) => Some(fault.number()),
+        _ => None,
     }
 }
 
-fn number(res: Result<(), CallFault>) -> u8 {
-    match res {
-        Ok(()) => 0,
-        Err(fault) => fault.number(),
-    }
+fn number(res: Result<(), CallFault>) -> Option<u8> {
+    res.err().map(CallFault::number)
 }

@@ -1,6 +1,6 @@
 ghost use Rattle.std.specs.Prelude.{◌≡◌};
 ghost use Rattle.umpire.specs.Calls.{call_result, next_rally, call_refusal, left_after, Settles};
-ghost use Rattle.umpire.specs.States.{state_of, rules_of};
+ghost use Rattle.umpire.specs.States.{state_of, rules_of, Steps};
 ghost use Rattle.umpire.specs.declared.calls.Call.TheVariants.{Rally as RallyCall};
 
 use super::Match;
@@ -12,9 +12,8 @@ use roll::Roll;
 impl<C: Contest> Match<C> {
     // Calls a rally, to be settled with the same log. Settled next, it is not refused.
     pub fn call(&mut self, log: &Roll<Entry>) -> Result<Rally, CallFault>
-        ensures kept { C.Contest.pile self.new.pile ≡ C.Contest.pile self.old.pile }
         ensures answer { result ≡ call_result (next_rally (state_of C.Contest.standing self.old log.now)) (call_refusal (rules_of C.Contest.pile self.old) (state_of C.Contest.standing self.old log.now)) }
-        ensures after { state_of C.Contest.standing self.new log.now ≡ left_after (rules_of C.Contest.pile self.old) (state_of C.Contest.standing self.old log.now) RallyCall }
+        ensures steps { Steps C.Contest.pile C.Contest.standing self.old log.now self.new log.now (λ r c. left_after r c RallyCall) }
         ensures settles { Settles (rules_of C.Contest.pile self.old) (state_of C.Contest.standing self.new log.now) result }
     {
         if self.pile.winner().is_some() {

@@ -3,7 +3,7 @@ use Rattle.std.proofs.Common.{◌≡◌, ◌<◌, min, length, take, drop, sym, 
 use Rattle.std.proofs.lemmas.List.{length-append, length-take, take_min}
 use Rattle.contest.specs.Piles.{StandingOf, contest_of}
 use Rattle.roll.specs.Rolls.{entries, spare, capacity}
-use Rattle.umpire.specs.Calls.{State, left_after, left_after_all, answer_to, answers_to, opened}
+use Rattle.umpire.specs.Calls.{State, left_after_all, answers_to, opened}
 use Rattle.umpire.specs.Matches.{made}
 use Rattle.umpire.specs.States.{state_of, end_state, places_of}
 use Rattle.umpire.specs.declared.calls.Call.{Call}
@@ -21,9 +21,9 @@ loop-call-preserved g c =
     let fresh = c.clear-2.new.self in
     let ks = take c.min-count.result c.args.calls.now in
     let few : c.loop-call.call-index < min (length (spare fresh)) 30000 = omega (arith, length-take c.min-count.result c.args.calls.now, c.min-count.ensures, c.capacity.ensures, ap length c.clear-2.ensures.entries) in (
-      c.make_call-answer.ensures.kept ∙ c.loop-call.invariant.0,
-      one_more _ (contest_of (g.C.Contest.pile c.loop-call.ongoing.pile)) _ ks (spare fresh) _ _ (entries c.loop-call.answers) (spare c.loop-call.answers) _ _ _ Call.Rally c.make_call-answer.result c.loop-call.invariant.1 c.loop-call-test.true few (ap (λ p. contest_of p) c.loop-call.invariant.0) c.make_call-answer.ensures.after c.make_call-answer.ensures.answer c.push.ensures.entries c.push.ensures.spare,
-      c.make_call-answer.ensures.same ∙ c.loop-call.invariant.2,
+      c.make_call-answer.ensures.steps.kept ∙ c.loop-call.invariant.0,
+      one_more _ (contest_of (g.C.Contest.pile c.loop-call.ongoing.pile)) _ ks (spare fresh) _ _ (entries c.loop-call.answers) (spare c.loop-call.answers) _ _ _ Call.Rally c.make_call-answer.result c.loop-call.invariant.1 c.loop-call-test.true few (ap (λ p. contest_of p) c.loop-call.invariant.0) c.make_call-answer.ensures.steps.after c.make_call-answer.ensures.answer c.push.ensures.entries c.push.ensures.spare,
+      c.make_call-answer.ensures.steps.same ∙ c.loop-call.invariant.2,
       c.push.ensures.same ∙ c.loop-call.invariant.3,
     )
 

@@ -1,7 +1,7 @@
 -- The loop of `play`: i calls are made.
-use Rattle.std.proofs.Common.{◌≡◌, take}
+use Rattle.std.proofs.Common.{◌≡◌}
 use Rattle.contest.specs.Piles.{contest_of}
-use Rattle.roll.specs.Rolls.{entries, spare, capacity}
+use Rattle.roll.specs.Rolls.{entries, spare}
 use Rattle.umpire.specs.States.{state_of}
 use Rattle.umpire.proofs.Turns.{Underway}
 use Rattle.umpire.proofs.play.play.Given as goal
