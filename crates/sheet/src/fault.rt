@@ -71,16 +71,16 @@ impl LogFault {
 impl From<ReadFault> for LogFault {
     ghost from_gives = { λ fault result. result ≡ Reading fault };
 
-    fn from(fault: ReadFault) -> LogFault {
-        LogFault::Reading(fault)
+    fn from(reading: ReadFault) -> LogFault {
+        LogFault::Reading(reading)
     }
 }
 
 impl From<ScoreFault> for LogFault {
     ghost from_gives = { λ fault result. result ≡ Scoring fault };
 
-    fn from(fault: ScoreFault) -> LogFault {
-        LogFault::Scoring(fault)
+    fn from(scoring: ScoreFault) -> LogFault {
+        LogFault::Scoring(scoring)
     }
 }
 
