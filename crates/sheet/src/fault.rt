@@ -1,7 +1,9 @@
 ghost use Rattle.std.specs.Prelude.{◌≡◌, Some};
 ghost use Rattle.sheet.specs.Faults.{score_fault_number, score_fault_place, log_fault_number, log_fault_place, fault_text};
 ghost use Rattle.sheet.specs.declared.fault.LogFault.TheVariants.{Reading, Scoring};
+ghost use Rattle.sheet.specs.declared.fault.ScoreFault.TheVariants.{Code};
 
+use formats::format::NoFormat;
 use rally_log::faults::ReadFault;
 use std::error::Error;
 use std::fmt;
@@ -37,6 +39,14 @@ impl ScoreFault {
             ScoreFault::NoPlace(index) => index,
             ScoreFault::Code | ScoreFault::Space => 0,
         }
+    }
+}
+
+impl From<NoFormat> for ScoreFault {
+    ghost from_gives = { λ _ result. result ≡ Code };
+
+    fn from(_: NoFormat) -> ScoreFault {
+        Self::Code
     }
 }
 

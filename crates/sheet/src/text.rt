@@ -32,7 +32,7 @@ impl TryFrom<Header> for Heading {
     ghost try_from_gives = { λ header result. result ≡ heading_of header };
 
     fn try_from(header: Header) -> Result<Heading, ScoreFault> {
-        let format = Format::from_code(header.code).ok_or(ScoreFault::Code)?;
+        let format = Format::try_from(header.code)?;
         Ok(Heading {
             number: header.number,
             format,
