@@ -1,20 +1,20 @@
 -- A log that was scored, and not for want of a place refused, comes to the same with more places for closings.
-use Rattle.std.proofs.Common.{◌≡◌, ℕ, suc, ◌+◌, ◌≤◌, Bool, true, false, cond, eqb, leb, List, [], ◌∷◌, ◌++◌, length, drop, Some, None, Ok, Err, Option, Result, sym, refl, ap, ◌∙◌, subst, arith, length-append}
+use Rattle.std.proofs.Common.{◌≡◌, ℕ, suc, ◌+◌, ◌≤◌, Bool, true, false, cond, leb, List, [], ◌∷◌, ◌++◌, length, drop, Some, None, Ok, Err, Option, Result, sym, refl, ap, ◌∙◌, subst, arith, length-append}
 use Rattle.std.proofs.lemmas.List.{take_all}
 use Rattle.std.proofs.lemmas.Bool.{leb-true, le-leb, true≢false}
 use Rattle.contest.specs.Contests.{Play, unless_won}
 use Rattle.contest.specs.Piles.{Shape, Pile, contest_of}
 use Rattle.contest.specs.declared.side.Side.{Side}
-use Rattle.formats.specs.declared.format.Format.{Format}
 use Rattle.rally_log.specs.declared.entry.Entry.{Entry}
 use Rattle.rally_log.specs.declared.entry.Entry.TheVariants.{Let, Point}
 use Rattle.roll.specs.Rolls.{most}
 use Rattle.sheet.specs.Closings.{Ending, through, after_end, no_place, ending, closings_at, closings_of}
-use Rattle.sheet.specs.Faults.{score_fault_number}
-use Rattle.sheet.specs.Scores.{ScoresIn, answer_to, all_closings}
+use Rattle.sheet.specs.Scores.{ScoresIn, ending_in, answer_to, all_closings}
 use Rattle.sheet.specs.declared.closing.Closing.{Closing}
 use Rattle.sheet.specs.declared.fault.ScoreFault.{ScoreFault}
 use Rattle.sheet.specs.declared.score.Scored.{Scored}
+use Rattle.sheet.specs.declared.text.Heading.{Heading}
+use Rattle.embed.specs.Answers.{is_no_place}
 
 -- every closing had a place
 abbrev pub Placed : Ending → Type 0
@@ -67,26 +67,26 @@ module _ {S : Type 0} (p : Play S) (places : ℕ) where
 -- whether scoring was refused for want of a place
 abbrev pub short : Result Scored ScoreFault → Bool
 short (Ok s) = false
-short (Err f) = eqb (score_fault_number f) 9
+short (Err f) = is_no_place f
 
-module _ {h : Shape} (p : Pile h) (number : ℕ) (o : Side) (es : List Entry) (f : Format) where
+module _ {h : Shape} (p : Pile h) (heading : Heading) (es : List Entry) where
   -- an answer that is no such refusal comes from an end at which every closing had a place
-  placed : (space : ℕ) (e : Ending) (r : Result Scored ScoreFault) → r ≡ answer_to p number o es f space e → short r ≡ false → Placed e
+  placed : (space : ℕ) (e : Ending) (r : Result Scored ScoreFault) → r ≡ answer_to p heading es space e → short r ≡ false → Placed e
   placed space through r k q = tt
   placed space (after_end i) r k q = tt
   placed space (no_place i) r k q = absurd (true≢false (sym (ap short k) ∙ q))
 
   pub with_more_closings : (places more : List Closing) (bytes : List ℕ) (r : Result Scored ScoreFault) (held left : List Closing) (after : List ℕ)
       → most [] places ≤ most [] more → short r ≡ false
-      → ScoresIn p number o es f places bytes r held left after → ScoresIn p number o es f more bytes r held (drop (length held) more) after
+      → ScoresIn p heading es places bytes r held left after → ScoresIn p heading es more bytes r held (drop (length held) more) after
   with_more_closings places more bytes r held left after j q k =
       let play = (contest_of p).play in
-      let s = (contest_of p).opening o in
-      let e = ending play s (most [] places) 0 0 es in
+      let s = (contest_of p).opening heading.opener in
+      let e = ending_in p heading es (most [] places) in
       let r' = enough play (most [] places) s 0 0 es e (omega arith) refl (placed (length bytes) e r k.answer q) in
-      let all = all_closings p number o es in
+      let all = all_closings p heading es in
       record {
-        answer = k.answer ∙ ap (answer_to p number o es f (length bytes)) (sym (r'.same (most [] more) j));
+        answer = k.answer ∙ ap (answer_to p heading es (length bytes)) (sym (r'.same (most [] more) j));
         held_is = k.held_is ∙ take_all (most [] places) all (omega (arith, r'.all_fit)) ∙ sym (take_all (most [] more) all (omega (arith, r'.all_fit)));
         left_is = refl;
         sheet_is = k.sheet_is;

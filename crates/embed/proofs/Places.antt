@@ -27,23 +27,21 @@ module _ (bytes : List ℕ) (entries more_entries : List Entry) (closings more_c
   read_and_scored r q s =
       let so = s.scores in
       let held = so.held in
-      let number = s.header.number in
-      let o = s.header.opener in
-      let f = so.format in
-      let one = one_pile f (λ h p. ScoresIn p number o s.log f closings sheet r held so.left after) so.scored in
+      let heading = so.heading in
+      let one = one_pile heading.format (λ h p. ScoresIn p heading s.log closings sheet r held so.left after) so.scored in
       record {
         header = s.header;
         log = s.log;
         accepted = record { written = s.accepted.written; known = s.accepted.known; fits = omega (arith, s.accepted.fits) };
         entries_are = refl;
         scores = record {
-          format = f;
+          heading = heading;
           named = so.named;
           held = held;
           left = drop (length held) more_closings;
           closings_are = refl;
-          scored = one.back (λ h p. ScoresIn p number o s.log f more_closings sheet r held (drop (length held) more_closings) after)
-              (with_more_closings one.pile number o s.log f closings more_closings sheet r held so.left after k q one.holds);
+          scored = one.back (λ h p. ScoresIn p heading s.log more_closings sheet r held (drop (length held) more_closings) after)
+              (with_more_closings one.pile heading s.log closings more_closings sheet r held so.left after k q one.holds);
         };
       }
 
@@ -98,8 +96,7 @@ refused : (e c : ℕ) (log sheet after : List ℕ) (f : LogFault) → ScoredWith
 refused e c log sheet after (Reading f) s = s.sheet_of.sheet_is
 refused e c log sheet after (Scoring f) s =
     let so = s.sheet_of.scores in
-    let h = s.sheet_of.header in
-    (one_pile so.format (λ h' p. ScoresIn p h.number h.opener s.sheet_of.log so.format s.closings sheet (Err f) so.held so.left after) so.scored).holds.sheet_is
+    (one_pile so.heading.format (λ h p. ScoresIn p so.heading s.sheet_of.log s.closings sheet (Err f) so.held so.left after) so.scored).holds.sheet_is
 
 pub untouched : (e c : ℕ) (log sheet after : List ℕ) (r : Result Scored LogFault) → short_of_places r ≡ true → ScoredWith e c log sheet after r → after ≡ sheet
 untouched e c log sheet after (Ok s) q k = absurd (true≢false (sym q))

@@ -1,23 +1,23 @@
 -- A log that was not refused for want of a place is read the same with more places for entries.
-use Rattle.std.proofs.Common.{◌≡◌, ℕ, ◌≤◌, Bool, true, false, eqb, ltb, List, length, Some, None, Err, ap, ◌∙◌, inl, inr, arith}
+use Rattle.std.proofs.Common.{◌≡◌, ℕ, ◌≤◌, Bool, true, false, ltb, List, length, Some, None, Err, ap, ◌∙◌, inl, inr, arith}
 use Rattle.std.proofs.lemmas.Bool.{ltb-true, lt-ltb, true≢false}
 use Rattle.rally_log.specs.Checks.{first_failed, entry_kind, entry_whole, entry_fields}
-use Rattle.rally_log.specs.Faults.{check_number}
 use Rattle.rally_log.specs.Readings.{Reads}
 use Rattle.rally_log.specs.declared.entry.Entry.{Entry}
 use Rattle.rally_log.specs.declared.faults.Check.{Check}
 use Rattle.rally_log.specs.declared.faults.ReadFault.{ReadFault}
+use Rattle.embed.specs.Answers.{is_room}
 
 -- a check that fails, and is not the last, fails with more room too
-other_check : (kind whole fields room more : Bool) (c : Check) → (room ≡ true → more ≡ true) → first_failed kind whole fields room ≡ Some c → eqb (check_number c) 9 ≡ false
+other_check : (kind whole fields room more : Bool) (c : Check) → (room ≡ true → more ≡ true) → first_failed kind whole fields room ≡ Some c → is_room c ≡ false
     → first_failed kind whole fields more ≡ Some c
 other_check false w f a b c h e q = e
 other_check true false f a b c h e q = e
 other_check true true false a b c h e q = e
-other_check true true true true b c h e q = let z : ◌≡◌ {A = ℕ} 0 1 = cc in absurd (omega arith)
-other_check true true true false b c h e q = absurd (true≢false (ap (λ o. elim o [ Some c ↦ eqb (check_number c) 9 | None ↦ false ]) e ∙ q))
+other_check true true true true b c h e q = cc
+other_check true true true false b c h e q = absurd (true≢false (ap (λ o. elim o [ Some c ↦ is_room c | None ↦ false ]) e ∙ q))
 
-pub with_more_entries : (bytes : List ℕ) (places more : ℕ) (fault : ReadFault) (held : List Entry) → places ≤ more → eqb (check_number fault.check) 9 ≡ false
+pub with_more_entries : (bytes : List ℕ) (places more : ℕ) (fault : ReadFault) (held : List Entry) → places ≤ more → is_room fault.check ≡ false
     → Reads bytes places (Err fault) held → Reads bytes more (Err fault) held
 with_more_entries bytes places more fault held j q (inl first) = inl first
 with_more_entries bytes places more fault held j q (inr k) =

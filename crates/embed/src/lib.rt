@@ -3,12 +3,13 @@
 #![tactic(auto)]
 
 ghost use Rattle.std.specs.Prelude.{◌≡◌, ◌≤◌, MatchOption};
-ghost use Rattle.embed.specs.Answers.{winner_told, told, short_of_places, ScoredWith, Scores};
+ghost use Rattle.embed.specs.Answers.{told, short_of_places, ScoredWith, Scores};
 
 use contest::side::Side;
 use rally_log::entry::Entry;
+use rally_log::faults::{Check, ReadFault};
 use sheet::closing::Closing;
-use sheet::fault::LogFault;
+use sheet::fault::{LogFault, ScoreFault};
 use sheet::score::Scored;
 use sheet::sheets::score_log;
 
@@ -22,32 +23,25 @@ pub struct SheetAnswer {
     pub winner: u8,
 }
 
-fn winner_letter(winner: Option<Side>) -> u8
-    ensures { result ≡ winner_told winner }
-{
-    match winner {
-        Some(Side::A) => b'A',
-        Some(Side::B) => b'B',
-        None => 0,
-    }
-}
+// A sheet is told by its length and its winner, and a fault by its number and place; what the other has is 0.
+impl From<Result<Scored, LogFault>> for SheetAnswer {
+    ghost from_gives = { λ result answer. answer ≡ told result };
 
-fn tell(res: Result<Scored, LogFault>) -> SheetAnswer
-    ensures { result ≡ told res }
-{
-    match res {
-        Ok(scored) => SheetAnswer {
-            length: scored.length,
-            place: 0,
-            fault: 0,
-            winner: winner_letter(scored.winner),
-        },
-        Err(fault) => SheetAnswer {
-            length: 0,
-            place: fault.place(),
-            fault: fault.number(),
-            winner: 0,
-        },
+    fn from(result: Result<Scored, LogFault>) -> SheetAnswer {
+        match result {
+            Ok(scored) => SheetAnswer {
+                length: scored.length,
+                place: 0,
+                fault: 0,
+                winner: scored.winner.map_or(0, u8::from),
+            },
+            Err(fault) => SheetAnswer {
+                length: 0,
+                place: fault.place(),
+                fault: fault.number(),
+                winner: 0,
+            },
+        }
     }
 }
 
@@ -55,10 +49,14 @@ fn tell(res: Result<Scored, LogFault>) -> SheetAnswer
 fn is_short(res: Result<Scored, LogFault>) -> bool
     ensures { result ≡ short_of_places res }
 {
-    match res {
-        Ok(_) => false,
-        Err(fault) => fault.number() == 9,
-    }
+    matches!(
+        res,
+        Err(LogFault::Reading(ReadFault {
+            check: Check::Room,
+            ..
+        }))
+            | Err(LogFault::Scoring(ScoreFault::NoPlace(_)))
+    )
 }
 
 // Scores a log with so many places for its entries and for its closings.
@@ -92,7 +90,7 @@ fn answer_with<const ENTRIES: usize, const CLOSINGS: usize>(
     if is_short(result) {
         None
     } else {
-        Some(tell(result))
+        Some(SheetAnswer::from(result))
     }
 }
 
@@ -107,8 +105,5 @@ pub extern "C" fn cibraduc_sheet(log: &[u8], sheet: &mut [u8]) -> SheetAnswer
         257..=4096 => answer_with::<4096, 128>(log, sheet),
         _ => None,
     };
-    match first {
-        Some(answer) => answer,
-        None => tell(score_with::<30_000, 4_000>(log, sheet)),
-    }
+    first.unwrap_or_else(|| SheetAnswer::from(score_with::<30_000, 4_000>(log, sheet)))
 }

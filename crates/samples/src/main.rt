@@ -28,15 +28,8 @@ fn score_file(rt: &HostRuntime, name: &str) -> anyhow::Result<()> {
     let mut sheet = vec![in heap; 0u8; SHEET_BYTES]?;
     println!(rt; "# {name}")?;
     match score_log(bytes.as_slice(), &mut entries, &mut closings, &mut sheet) {
-        Ok(scored) => {
-            let length = scored.length;
-            rt.stdout().write_all(&sheet[0..length])?;
-        }
-        Err(fault) => {
-            let number = fault.number();
-            let place = fault.place();
-            println!(rt; "fault {number} at {place}")?;
-        }
+        Ok(scored) => rt.stdout().write_all(&sheet[..scored.length])?,
+        Err(fault) => println!(rt; "{fault}")?,
     }
     Ok(())
 }

@@ -4,8 +4,6 @@
 // error of input or output is reported on the standard error, with status 1.
 #![tactic(auto)]
 
-ghost use Rattle.std.specs.Prelude.{◌≤◌, length, IfOk};
-
 use contest::side::Side;
 use rally_log::entry::Entry;
 use sheet::closing::Closing;
@@ -16,7 +14,7 @@ use std::io::{ErrorKind, Read, Write};
 
 const LOG: &str = "rally.log";
 
-const LOG_BYTES: usize = 65_536;
+const LOG_BYTES: u64 = 65_536;
 
 const ENTRIES: usize = 30_000;
 
@@ -24,41 +22,24 @@ const CLOSINGS: usize = 4_000;
 
 const SHEET_BYTES: usize = 65_536;
 
-// Reads the file into the bytes, as far as they go, and says how many there are.
-fn fill(file: &mut File, bytes: &mut [u8]) -> io::Result<usize>
-    ensures { IfOk result (λ count. count ≤ length bytes.old) }
-{
-    let mut count = 0usize;
-    while count < bytes.len() {
-        let more = file.read(&mut bytes[count..])?;
-        if more == 0 {
-            break;
-        }
-        count += more;
-    }
-    Ok(count)
-}
-
-// How many bytes of the log there are; none, where there is no file.
-fn read_log(rt: &HostRuntime, bytes: &mut [u8]) -> io::Result<usize>
-    ensures { IfOk result (λ count. count ≤ length bytes.old) }
-{
+// The bytes of the log, as far as they are read; none, where there is no file.
+fn read_log(rt: &HostRuntime) -> io::Result<Vec<u8>> {
+    let mut bytes = Vec::new(rt.alloc());
     match File::open(rt, LOG) {
-        Ok(mut file) => fill(&mut file, bytes),
-        Err(error) => {
-            if error.kind() == ErrorKind::NotFound {
-                Ok(0)
-            } else {
-                Err(error)
-            }
+        Ok(file) => {
+            file.take(LOG_BYTES).read_to_end(&mut bytes)?;
         }
+        Err(error) if error.kind() == ErrorKind::NotFound => {}
+        Err(error) => return Err(error),
     }
+    Ok(bytes)
 }
 
+// The program `samples` makes the same places and prints the same way: a library of these lines would need a heap and output, and
+// could promise nothing of what is printed.
 fn run(rt: &HostRuntime) -> anyhow::Result<()> {
     let heap = rt.alloc();
-    let mut bytes = vec![in heap; 0u8; LOG_BYTES]?;
-    let count = read_log(rt, &mut bytes)?;
+    let bytes = read_log(rt)?;
     let mut entries = vec![in heap; Entry::Let; ENTRIES]?;
     let unused = Closing {
         depth: 0,
@@ -68,16 +49,9 @@ fn run(rt: &HostRuntime) -> anyhow::Result<()> {
     };
     let mut closings = vec![in heap; unused; CLOSINGS]?;
     let mut sheet = vec![in heap; 0u8; SHEET_BYTES]?;
-    match score_log(&bytes[0..count], &mut entries, &mut closings, &mut sheet) {
-        Ok(scored) => {
-            let length = scored.length;
-            rt.stdout().write_all(&sheet[0..length])?;
-        }
-        Err(fault) => {
-            let number = fault.number();
-            let place = fault.place();
-            println!(rt; "fault {number} at {place}")?;
-        }
+    match score_log(&bytes, &mut entries, &mut closings, &mut sheet) {
+        Ok(scored) => rt.stdout().write_all(&sheet[..scored.length])?,
+        Err(fault) => println!(rt; "{fault}")?,
     }
     Ok(())
 }

@@ -6,3 +6,5 @@ pub mod Through
 pub mod Taking
 pub mod Fitting
 pub mod Depths
+pub mod Promised
+pub mod Lent

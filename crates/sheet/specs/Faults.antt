@@ -1,18 +1,11 @@
--- The number and the place of each refusal.
-use Rattle.std.specs.Prelude.{ℕ}
+-- The number and the place of each refusal, and how it is told.
+use Rattle.std.specs.Prelude.{ℕ, List, ◌++◌, codes, decimal}
 use Rattle.rally_log.specs.Faults.{check_number}
 use Rattle.roll.specs.Rolls.{full_number}
-use Rattle.sheet.specs.declared.fault.EntryFault.{EntryFault}
-use Rattle.sheet.specs.declared.fault.EntryFault.TheVariants as entry_fault
 use Rattle.sheet.specs.declared.fault.LogFault.{LogFault}
 use Rattle.sheet.specs.declared.fault.LogFault.TheVariants.{Reading, Scoring}
 use Rattle.sheet.specs.declared.fault.ScoreFault.{ScoreFault}
 use Rattle.sheet.specs.declared.fault.ScoreFault.TheVariants.{Code, AfterEnd, NoPlace, Space}
-
--- the fault of the entry at an index
-abbrev pub fault_at : EntryFault → ℕ → ScoreFault
-fault_at entry_fault.AfterEnd i = AfterEnd i
-fault_at entry_fault.NoPlace i = NoPlace i
 
 abbrev pub score_fault_number : ScoreFault → ℕ
 score_fault_number Code = 13
@@ -35,3 +28,7 @@ log_fault_number (Scoring f) = score_fault_number f
 abbrev pub log_fault_place : LogFault → ℕ
 log_fault_place (Reading f) = f.place
 log_fault_place (Scoring f) = score_fault_place f
+
+-- how a refusal is told, by its number and its place
+abbrev pub fault_text : ℕ → ℕ → List ℕ
+fault_text number place = codes "fault " ++ decimal number ++ codes " at " ++ decimal place

@@ -1,5 +1,6 @@
 pub mod Sinks
 pub mod Text
+pub mod Headings
 pub mod Closings
 pub mod Scoring
 pub mod Faults

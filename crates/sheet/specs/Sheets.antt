@@ -1,28 +1,28 @@
 -- From the bytes of a log to the bytes of its sheet: the whole promise of the scorer.
-use Rattle.std.specs.Prelude.{◌≡◌, ℕ, List, [], ◌++◌, length, drop, Some, Ok, Err, Result}
-use Rattle.formats.specs.Formats.{format_of}
+use Rattle.std.specs.Prelude.{◌≡◌, ℕ, List, [], ◌++◌, length, drop, Ok, Err, Result}
 use Rattle.formats.specs.Table.{InFormat}
-use Rattle.formats.specs.declared.format.Format.{Format}
 use Rattle.rally_log.specs.Readings.{Accepted, Reads, Only}
 use Rattle.rally_log.specs.declared.entry.Entry.{Entry}
 use Rattle.rally_log.specs.declared.entry.Header.{Header}
 use Rattle.rally_log.specs.declared.faults.ReadFault.{ReadFault}
 use Rattle.roll.specs.Rolls.{most}
+use Rattle.sheet.specs.Headings.{heading_of}
 use Rattle.sheet.specs.Scores.{ScoresIn}
 use Rattle.sheet.specs.declared.closing.Closing.{Closing}
 use Rattle.sheet.specs.declared.fault.LogFault.{LogFault}
 use Rattle.sheet.specs.declared.fault.LogFault.TheVariants.{Reading, Scoring}
 use Rattle.sheet.specs.declared.fault.ScoreFault.{ScoreFault}
 use Rattle.sheet.specs.declared.score.Scored.{Scored}
+use Rattle.sheet.specs.declared.text.Heading.{Heading}
 
 -- a log with this header was scored in the format that the header names: the answer, the closings and the sheet are the ones that are defined for that format's pile; where there is a sheet, the pile took all the points, and they have their cutting, layer by layer
 pub record ScoredSo (header : Header) (log : List Entry) (closings : List Closing) (sheet : List ℕ) (closings_after : List Closing) (sheet_after : List ℕ) (r : Result Scored ScoreFault) : Type 0 where
-  pub format : Format
-  pub named : format_of header.code ≡ Some format
+  pub heading : Heading
+  pub named : heading_of header ≡ Ok heading
   pub held : List Closing
   pub left : List Closing
   pub closings_are : closings_after ≡ held ++ left
-  pub scored : InFormat format (λ h p. ScoresIn p header.number header.opener log format closings sheet r held left sheet_after)
+  pub scored : InFormat heading.format (λ h p. ScoresIn p heading log closings sheet r held left sheet_after)
 
 -- what holds of bytes that were given with places for entries and closings and bytes for a sheet, and of what these hold afterwards
 module _ (bytes : List ℕ) (entries : List Entry) (closings : List Closing) (sheet : List ℕ) (entries_after : List Entry) (closings_after : List Closing) (sheet_after : List ℕ) where

@@ -2,6 +2,7 @@
 use Rattle.std.specs.Prelude.{ℕ, zero, suc, ◌+◌, List, [], ◌∷◌, ◌++◌, Some, None, codes, decimal, Option}
 use Rattle.std.specs.List.{flat_map}
 use Rattle.contest.specs.Contests.{Play, Contest}
+use Rattle.contest.specs.Piles.{Shape, StandingOf, Pile, contest_of}
 use Rattle.contest.specs.declared.level.Level.{Level}
 use Rattle.contest.specs.declared.side.Side.{Side}
 use Rattle.contest.specs.declared.side.Side.TheVariants.{A, B}
@@ -11,6 +12,7 @@ use Rattle.contest.specs.Sides.{letter}
 use Rattle.rally_log.specs.declared.entry.Entry.{Entry}
 use Rattle.sheet.specs.declared.closing.Closing.{Closing}
 use Rattle.sheet.specs.declared.text.Heading.{Heading}
+use Rattle.sheet.specs.declared.sheet.Sheet.{Sheet}
 
 -- a line: its first field, each other one behind one space, and the end of the line
 abbrev pub rest_of_line : List (List ℕ) → List ℕ
@@ -69,3 +71,11 @@ text_of c h es closings s =
     ++ (flat_map closing_line closings
     ++ (totals_line (count_of A (points_in es)) (count_of B (points_in es)) (lets_in es)
     ++ last_line c.play s (c.play.winner s)))
+
+-- what a sheet tells of, where each thing of the type C is a pile that stands somewhere: its text, and who has won
+module _ {C : Type 0} {h : Shape} (pile : C → Pile h) (standing : C → StandingOf h) (s : Sheet C) where
+  abbrev pub text_of_sheet : List ℕ
+  text_of_sheet = text_of (contest_of (pile s.pile.now)) s.heading s.log.now s.closings.now (standing s.pile.now)
+
+  abbrev pub winner_of_sheet : Option Side
+  winner_of_sheet = (contest_of (pile s.pile.now)).play.winner (standing s.pile.now)

@@ -5,6 +5,7 @@ pub mod closing;
 pub mod fault;
 pub mod score;
 mod scoring;
+mod sheet;
 pub mod sheets;
 mod sink;
 mod text;

@@ -1,19 +1,22 @@
-ghost use Rattle.std.specs.Prelude.{◌≡◌, ◌+◌, ◌%◌, ◌^◌, ◌<◌, decimal};
-ghost use Rattle.contest.specs.Piles.{contest_of};
-ghost use Rattle.roll.specs.Rolls.{entries};
-ghost use Rattle.sheet.specs.Sinks.{Puts};
-ghost use Rattle.sheet.specs.Text.{counts, side as side_field, match_line, closing_line, totals_line, open_field, open_fields, spaced, last_line, text_of};
+ghost use Rattle.std.specs.Prelude.{◌≡◌, decimal};
 ghost use Rattle.std.specs.List.{flat_map};
+ghost use Rattle.contest.specs.Piles.{contest_of};
+ghost use Rattle.sheet.specs.Headings.{heading_of};
+ghost use Rattle.sheet.specs.Sinks.{Puts};
+ghost use Rattle.sheet.specs.Text.{counts, side as side_field, match_line, closing_line, totals_line, open_field, open_fields, spaced, last_line, text_of_sheet};
+ghost use Rattle.formats.specs.Formats.{name_of};
 
 use crate::closing::Closing;
+use crate::fault::ScoreFault;
+use crate::sheet::Sheet;
 use crate::sink::Sink;
-use crate::totals::{LogTotals, totals_of};
+use crate::totals::LogTotals;
 use contest::contest::Contest;
 use contest::level::Level;
 use contest::side::Side;
 use formats::format::Format;
-use rally_log::entry::Entry;
-use roll::Roll;
+use itoa::Buffer;
+use rally_log::entry::Header;
 
 // What the first line of a sheet says.
 #[derive(Clone, Copy)]
@@ -23,6 +26,23 @@ pub(crate) struct Heading {
     pub(crate) opener: Side,
 }
 
+impl TryFrom<Header> for Heading {
+    type Error = ScoreFault;
+
+    ghost try_from_gives = { λ header result. result ≡ heading_of header };
+
+    fn try_from(header: Header) -> Result<Heading, ScoreFault> {
+        let format = Format::try_from(header.code)?;
+        Ok(Heading {
+            number: header.number,
+            format,
+            opener: header.opener,
+        })
+    }
+}
+
+// The functions that follow write by the sink and not by `write!`, whose contract says what it wrote if it answers `Ok`, but not that
+// it does: a sheet that fits would then be refused.
 fn put_bytes<S: Sink>(sink: &mut S, bytes: &[u8])
     ensures { Puts S.Sink.takes sink.old bytes.now sink.new }
 {
@@ -37,21 +57,11 @@ fn put_text<S: Sink>(sink: &mut S, text: &str)
     put_bytes(sink, text.as_bytes());
 }
 
-// The last decimal digit of a number.
-fn last_digit(n: u16) -> u8
-    ensures { result ≡ 48 + n % 10 }
-{
-    b'0' + (n % 10) as u8
-}
-
 // A number in decimal digits.
 fn put_number<S: Sink>(sink: &mut S, n: u16)
     ensures { Puts S.Sink.takes sink.old (decimal n) sink.new }
 {
-    if n >= 10 {
-        put_number(sink, n / 10);
-    }
-    sink.put(last_digit(n));
+    put_text(sink, Buffer::new().format(n));
 }
 
 fn put_counts<S: Sink>(sink: &mut S, a: u16, b: u16)
@@ -65,10 +75,7 @@ fn put_counts<S: Sink>(sink: &mut S, a: u16, b: u16)
 fn put_side<S: Sink>(sink: &mut S, side: Side)
     ensures { Puts S.Sink.takes sink.old (side_field side) sink.new }
 {
-    sink.put(match side {
-        Side::A => b'A',
-        Side::B => b'B',
-    });
+    sink.put(u8::from(side));
 }
 
 fn put_closing<S: Sink>(sink: &mut S, closing: Closing)
@@ -82,20 +89,19 @@ fn put_closing<S: Sink>(sink: &mut S, closing: Closing)
     sink.put(b'\n');
 }
 
-fn put_match<S: Sink>(sink: &mut S, number: u16, name: &str, opener: Side)
-    ensures { Puts S.Sink.takes sink.old (match_line number name.now opener) sink.new }
+fn put_heading<S: Sink>(sink: &mut S, heading: Heading)
+    ensures { Puts S.Sink.takes sink.old (match_line heading.number (name_of heading.format) heading.opener) sink.new }
 {
     put_text(sink, "match ");
-    put_number(sink, number);
+    put_number(sink, heading.number);
     sink.put(b' ');
-    put_text(sink, name);
+    put_text(sink, heading.format.name());
     put_text(sink, " opener ");
-    put_side(sink, opener);
+    put_side(sink, heading.opener);
     sink.put(b'\n');
 }
 
 fn put_totals<S: Sink>(sink: &mut S, totals: LogTotals)
-    requires { totals.a + totals.b + totals.lets < 2 ^ 16 }
     ensures { Puts S.Sink.takes sink.old (totals_line totals.a totals.b totals.lets) sink.new }
 {
     put_text(sink, "rallies ");
@@ -107,13 +113,11 @@ fn put_totals<S: Sink>(sink: &mut S, totals: LogTotals)
     sink.put(b'\n');
 }
 
-fn put_closings<S: Sink>(sink: &mut S, closings: &Roll<Closing>)
-    ensures { Puts S.Sink.takes sink.old (flat_map closing_line (entries closings.now)) sink.new }
+fn put_closings<S: Sink>(sink: &mut S, closings: &[Closing])
+    ensures { Puts S.Sink.takes sink.old (flat_map closing_line closings.now) sink.new }
 {
-    let mut index = 0;
-    while let Some(closing) = closings.get(index) {
-        put_closing(sink, closing);
-        index += 1;
+    for closing in closings {
+        put_closing(sink, *closing);
     }
 }
 
@@ -155,18 +159,14 @@ fn put_end<S: Sink, C: Contest>(sink: &mut S, pile: &C)
     sink.put(b'\n');
 }
 
-// The whole sheet.
-pub(crate) fn put_sheet<S: Sink, C: Contest>(
-    sink: &mut S,
-    heading: Heading,
-    pile: &C,
-    log: &Roll<Entry>,
-    closings: &Roll<Closing>,
-)
-    ensures { Puts S.Sink.takes sink.old (text_of (contest_of (C.Contest.pile pile.now)) heading (entries log.now) (entries closings.now) (C.Contest.standing pile.now)) sink.new }
-{
-    put_match(sink, heading.number, heading.format.name(), heading.opener);
-    put_closings(sink, closings);
-    put_totals(sink, totals_of(log));
-    put_end(sink, pile);
+impl<C: Contest> Sheet<'_, C> {
+    // Puts the whole text into a sink.
+    pub(crate) fn put<S: Sink>(&self, sink: &mut S)
+        ensures { Puts S.Sink.takes sink.old (text_of_sheet C.Contest.pile C.Contest.standing self.now) sink.new }
+    {
+        put_heading(sink, self.heading);
+        put_closings(sink, self.closings);
+        put_totals(sink, LogTotals::of(self.log));
+        put_end(sink, self.pile);
+    }
 }

@@ -1,41 +1,45 @@
-ghost use Rattle.std.specs.Prelude.{◌≡◌, ◌-◌, ◌^◌, ◌<◌, ◌≤◌, ◌++◌, length, drop};
-ghost use Rattle.contest.specs.Piles.{contest_of};
-ghost use Rattle.roll.specs.Rolls.{entries};
+ghost use Rattle.std.specs.Prelude.{◌≡◌, ◌≤◌, ◌++◌, length, drop};
+ghost use Rattle.sheet.specs.Scores.{Written};
 ghost use Rattle.sheet.specs.Sinks.{Measures};
-ghost use Rattle.sheet.specs.Text.{text_of};
+ghost use Rattle.sheet.specs.Text.{text_of_sheet, winner_of_sheet};
 
-use crate::closing::Closing;
+use crate::fault::ScoreFault;
+use crate::score::Scored;
 use crate::sink::{Measure, Pen};
-use crate::text::{Heading, put_sheet};
+use crate::sheet::Sheet;
 use contest::contest::Contest;
-use rally_log::entry::Entry;
-use roll::Roll;
 
-// How many bytes the sheet has.
-pub(crate) fn sheet_length<C: Contest>(
-    heading: Heading,
-    pile: &C,
-    log: &Roll<Entry>,
-    closings: &Roll<Closing>,
-) -> usize
-    ensures { Measures result (text_of (contest_of (C.Contest.pile pile.now)) heading (entries log.now) (entries closings.now) (C.Contest.standing pile.now)) }
-{
-    let mut measure = Measure { length: 0 };
-    put_sheet(&mut measure, heading, pile, log, closings);
-    measure.length
-}
+impl<C: Contest> Sheet<'_, C> {
+    // How many bytes the sheet has.
+    fn length(&self) -> usize
+        ensures { Measures result (text_of_sheet C.Contest.pile C.Contest.standing self.now) }
+    {
+        let mut measure = Measure { length: 0 };
+        self.put(&mut measure);
+        measure.length
+    }
 
-// Writes the sheet over the first bytes.
-pub(crate) fn write_sheet<C: Contest>(
-    bytes: &mut [u8],
-    heading: Heading,
-    pile: &C,
-    log: &Roll<Entry>,
-    closings: &Roll<Closing>,
-)
-    requires { length (text_of (contest_of (C.Contest.pile pile.now)) heading (entries log.now) (entries closings.now) (C.Contest.standing pile.now)) ≤ length bytes.old }
-    ensures { bytes.new ≡ text_of (contest_of (C.Contest.pile pile.now)) heading (entries log.now) (entries closings.now) (C.Contest.standing pile.now) ++ drop (length (text_of (contest_of (C.Contest.pile pile.now)) heading (entries log.now) (entries closings.now) (C.Contest.standing pile.now))) bytes.old }
-{
-    let mut pen = Pen { bytes, at: 0 };
-    put_sheet(&mut pen, heading, pile, log, closings);
+    // Writes the sheet over the first bytes.
+    fn write(&self, bytes: &mut [u8])
+        requires { length (text_of_sheet C.Contest.pile C.Contest.standing self.now) ≤ length bytes.old }
+        ensures { let text = text_of_sheet C.Contest.pile C.Contest.standing self.now in bytes.new ≡ text ++ drop (length text) bytes.old }
+    {
+        let mut pen = Pen { bytes, at: 0 };
+        self.put(&mut pen);
+    }
+
+    // Writes the sheet over the first bytes, where it fits.
+    pub(crate) fn write_fitting(&self, bytes: &mut [u8]) -> Result<Scored, ScoreFault>
+        ensures { Written (text_of_sheet C.Contest.pile C.Contest.standing self.now) (winner_of_sheet C.Contest.pile C.Contest.standing self.now) bytes.old result bytes.new }
+    {
+        let length = self.length();
+        if length > bytes.len() {
+            return Err(ScoreFault::Space);
+        }
+        self.write(bytes);
+        Ok(Scored {
+            length,
+            winner: self.pile.winner(),
+        })
+    }
 }

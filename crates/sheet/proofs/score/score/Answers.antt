@@ -1,24 +1,14 @@
-use Rattle.std.proofs.Common.{Err, refl, subst}
+use Rattle.std.proofs.Common.{sym}
+use Rattle.std.proofs.lemmas.Result.{err_from_is_err_and}
 use Rattle.roll.specs.Rolls.{entries, spare}
-use Rattle.sheet.specs.Scores.{ScoresAs}
-use Rattle.sheet.specs.declared.fault.ScoreFault.TheVariants.{Code}
+use Rattle.sheet.proofs.Promised.{no_heading}
 use Rattle.sheet.proofs.score.score.Goals as goal
 
-pub returns-in-Ok : goal.returns-in-Ok
-returns-in-Ok g c =
+pub returns-in_err-try_from-clause-scores : goal.returns-in_err-try_from-clause-scores
+returns-in_err-try_from-clause-scores g c =
     let r = c.args.closings.now in
-    let q = c.score_in.new.closings in
-    record {
-      scores = subst (λ f. ScoresAs (g.C.Contest.pile c.args.pile) c.args.number f c.args.opener (entries c.args.log.now) (entries r) (spare r) c.args.sheet.now c.score_in.result (entries q) (spare q) c.score_in.new.sheet)
-          c.in-Ok.ensures.value c.score_in.ensures.scores;
-      same = c.score_in.ensures.same;
-    }
+    let p = err_from_is_err_and c.from_residual.result c.from_residual.ensures.1 in
+    rw (p.1, p.2) (no_heading (g.C.Contest.pile c.args.pile) c.args.header (entries c.args.log.now) (entries r) (spare r) c.args.sheet.now (sym c.in_err-try_from.ensures))
 
-pub returns-in-Err : goal.returns-in-Err
-returns-in-Err g c =
-    let r = c.args.closings.now in
-    record {
-      scores = subst (λ f. ScoresAs (g.C.Contest.pile c.args.pile) c.args.number f c.args.opener (entries c.args.log.now) (entries r) (spare r) c.args.sheet.now (Err Code) (entries r) (spare r) c.args.sheet.now)
-          c.in-Err.ensures.value (record { answer = refl; held_is = refl; left_is = refl; sheet_is = refl });
-      same = refl;
-    }
+pub returns-clause-scores : goal.returns-clause-scores
+returns-clause-scores g c = rw (sym c.in_ok-try_from.ensures) c.score_in.ensures.scores

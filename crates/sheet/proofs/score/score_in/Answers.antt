@@ -1,27 +1,19 @@
-use Rattle.std.proofs.Common.{◌≡◌, [], ◌++◌, length, rules}
+use Rattle.std.proofs.Common.{◌∙◌}
 use Rattle.contest.specs.Piles.{contest_of}
-use Rattle.roll.specs.Rolls.{entries, spare, most}
-use Rattle.sheet.specs.Closings.{ending}
-use Rattle.sheet.specs.Scores.{answer_to}
-use Rattle.sheet.proofs.Taking.{took_all}
+use Rattle.roll.specs.Rolls.{entries}
+use Rattle.sheet.specs.Scores.{Written}
+use Rattle.sheet.specs.Text.{text_of}
+use Rattle.sheet.proofs.Promised.{written_in}
 use Rattle.sheet.proofs.score.score_in.Goals as goal
 
-pub returns-in-Ok : goal.returns-in-Ok
-returns-in-Ok g c =
-    let p = g.C.Contest.pile c.args.pile in
+pub returns-clause-scores : goal.returns-clause-scores
+returns-clause-scores g c =
     let h = c.args.heading in
-    let es = entries c.args.log.now in
-    let before = c.args.closings.now in
-    let places = entries before ++ spare before in
-    let sheet = c.args.sheet.now in
-    let answer : c.write_scored.result ≡ answer_to p h.number h.opener es h.format (length sheet) (ending (contest_of p).play ((contest_of p).opening h.opener) (most [] places) 0 0 es) = search rules in
-    record {
-      scores = record {
-        answer = answer;
-        held_is = search rules;
-        left_is = search rules;
-        sheet_is = search rules;
-        cut = took_all p (g.met.C.Contest.sound c.args.pile) h.number h.opener es h.format (length sheet) (most [] places) c.write_scored.result answer;
-      };
-      same = search rules;
-    }
+    let kept = c.score_entries.ensures.kept ∙ c.open.ensures.kept in
+    let scored = rw (c.open.ensures.kept, c.open.ensures.opened, c.as_slice.ensures) at c.in_ok-score_entries.ensures.scored in
+    let end = c.score_entries.new.pile in
+    let match = contest_of (g.C.Contest.pile end) in
+    let s = g.C.Contest.standing end in
+    let written : Written (text_of match h c.as_slice-2.result.now c.as_slice-3.result.now s) (match.play.winner s) c.args.sheet.now c.write_fitting.result c.write_fitting.new.bytes =
+    c.write_fitting.ensures in
+    written_in (g.C.Contest.pile c.args.pile) h (entries c.args.log.now) (g.met.C.Contest.sound c.args.pile) scored (rw (kept, c.as_slice-2.ensures, c.as_slice-3.ensures) at written)

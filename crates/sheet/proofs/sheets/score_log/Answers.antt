@@ -1,68 +1,60 @@
-use Rattle.std.proofs.Common.{◌≡◌, ◌++◌, length, drop, Ok, Err, sym, refl, ap, ◌∙◌, subst, ap₂, rules}
-use Rattle.std.proofs.lemmas.List.{take-append-drop}
+use Rattle.std.proofs.Common.{Ok, Err, sym, refl, ◌∙◌, subst, ap₂, rules}
+use Rattle.std.proofs.lemmas.Result.{err_from_is_err_and}
 use Rattle.rally_log.specs.Readings.{Accepted, Reads, Only}
-use Rattle.roll.specs.Rolls.{entries, spare, most}
+use Rattle.roll.specs.Rolls.{entries, most}
 use Rattle.sheet.proofs.Fitting.{fits}
+use Rattle.sheet.proofs.Lent.{read_into}
 use Rattle.sheet.proofs.sheets.score_log.Goals as goal
 
-pub returns-in-Ok-score_read : goal.returns-in-Ok-score_read
-returns-in-Ok-score_read c =
-    let scored = c.in-Ok-score_read.ensures in
+pub returns-in_err-header-clause-whole : goal.returns-in_err-header-clause-whole
+returns-in_err-header-clause-whole c =
     let roll = c.read.new.roll in
     let new = c.new-log.ensures in
-    let lent = c.args.entries.now in
     let places = ap₂ most new.entries new.spare in
     let same_name = sym (c.read.ensures.same ∙ new.same) in
-    let left : spare roll ≡ drop (length (entries roll)) lent = c.read.ensures.spare ∙ ap (drop (length (entries roll))) (ap₂ ◌++◌ new.entries new.spare) in
-    let whole : roll.places.now ≡ entries roll ++ drop (length (entries roll)) lent = sym (take-append-drop roll.count roll.places.now) ∙ ap (λ xs. entries roll ++ xs) left in
-    record {
-      within = fits scored.format c.in-Ok.header.number c.in-Ok.header.opener (entries roll) c.args.closings.now c.args.sheet.now (Ok c.in-Ok-score_read.scored) scored.held scored.left c.score_read.new.sheet scored.format scored.scored;
-      whole = record {
-        header = c.in-Ok.header;
-        log = entries roll;
-        accepted = subst (λ n. Accepted c.args.bytes.now n c.in-Ok.header (entries roll)) places c.in-Ok.ensures.reads;
-        entries_are = search rules;
-        scores = c.in-Ok-score_read.ensures;
-      };
-    }
+    let whole = read_into c.new-log.result roll new.entries new.spare c.read.ensures.spare in
+    let f = c.in_err-header.field-0.0 in
+    let e = err_from_is_err_and c.from_residual.result c.from_residual.ensures.1 in
+    rw (e.1, e.2) (record {
+      held = entries roll;
+      reads = subst (λ n. Reads c.args.bytes.now n (Err f) (entries roll)) places c.in_err-header.ensures.reads;
+      only = subst (λ n. Only c.args.bytes.now n (Err f) (entries roll)) places c.in_err-header.ensures.only;
+      entries_are = search rules;
+      closings_are = refl;
+      sheet_is = refl;
+    })
 
-pub returns-in-Err-score_read : goal.returns-in-Err-score_read
-returns-in-Err-score_read c =
+pub returns-in_err-score_read-clause-whole : goal.returns-in_err-score_read-clause-whole
+returns-in_err-score_read-clause-whole c =
     let roll = c.read.new.roll in
     let new = c.new-log.ensures in
-    let lent = c.args.entries.now in
     let places = ap₂ most new.entries new.spare in
     let same_name = sym (c.read.ensures.same ∙ new.same) in
-    let left : spare roll ≡ drop (length (entries roll)) lent = c.read.ensures.spare ∙ ap (drop (length (entries roll))) (ap₂ ◌++◌ new.entries new.spare) in
-    let whole : roll.places.now ≡ entries roll ++ drop (length (entries roll)) lent = sym (take-append-drop roll.count roll.places.now) ∙ ap (λ xs. entries roll ++ xs) left in
-    record {
-      within = tt;
-      whole = record {
-        header = c.in-Ok.header;
-        log = entries roll;
-        accepted = subst (λ n. Accepted c.args.bytes.now n c.in-Ok.header (entries roll)) places c.in-Ok.ensures.reads;
-        entries_are = search rules;
-        scores = c.in-Err-score_read.ensures;
-      };
-    }
+    let whole = read_into c.new-log.result roll new.entries new.spare c.read.ensures.spare in
+    let e = err_from_is_err_and c.from_residual-in_err-score_read.result c.from_residual-in_err-score_read.ensures.1 in
+    rw (e.1, e.2) (record {
+      header = c.in_ok-header.header;
+      log = entries roll;
+      accepted = subst (λ n. Accepted c.args.bytes.now n c.in_ok-header.header (entries roll)) places c.in_ok-header.ensures.reads;
+      entries_are = search rules;
+      scores = c.in_err-score_read.ensures;
+    })
 
-pub returns-in-Err : goal.returns-in-Err
-returns-in-Err c =
+pub returns : goal.returns
+returns c =
     let roll = c.read.new.roll in
     let new = c.new-log.ensures in
-    let lent = c.args.entries.now in
     let places = ap₂ most new.entries new.spare in
     let same_name = sym (c.read.ensures.same ∙ new.same) in
-    let left : spare roll ≡ drop (length (entries roll)) lent = c.read.ensures.spare ∙ ap (drop (length (entries roll))) (ap₂ ◌++◌ new.entries new.spare) in
-    let whole : roll.places.now ≡ entries roll ++ drop (length (entries roll)) lent = sym (take-append-drop roll.count roll.places.now) ∙ ap (λ xs. entries roll ++ xs) left in
+    let whole = read_into c.new-log.result roll new.entries new.spare c.read.ensures.spare in
+    let so = c.in_ok-score_read.ensures in
     record {
-      within = tt;
+      within = fits so.heading (entries roll) c.args.closings.now c.args.sheet.now so.held so.left c.score_read.new.sheet (Ok c.in_ok-score_read.field-0) so.heading.format so.scored;
       whole = record {
-        held = entries roll;
-        reads = subst (λ n. Reads c.args.bytes.now n (Err c.in-Err.fault) (entries roll)) places c.in-Err.ensures.reads;
-        only = subst (λ n. Only c.args.bytes.now n (Err c.in-Err.fault) (entries roll)) places c.in-Err.ensures.only;
+        header = c.in_ok-header.header;
+        log = entries roll;
+        accepted = subst (λ n. Accepted c.args.bytes.now n c.in_ok-header.header (entries roll)) places c.in_ok-header.ensures.reads;
         entries_are = search rules;
-        closings_are = refl;
-        sheet_is = refl;
+        scores = so;
       };
     }

@@ -7,19 +7,17 @@ use Rattle.sheet.proofs.sheets.score_read.Goals as goal
 
 pub returns : goal.returns
 returns c =
-    let h = c.args.header in
-    let f = c.in-Ok.format in
+    let h = c.in_ok-try_from.field-0 in
     let roll = c.score_format.new.closings in
     let new = c.new-roll.ensures in
-    let places = ap₂ ◌++◌ new.entries new.spare in
     let same_name = sym (c.score_format.ensures.same ∙ new.same) in
     let whole : roll.places.now ≡ entries roll ++ spare roll = sym (take-append-drop roll.count roll.places.now) in
     record {
-      format = f;
-      named = sym c.in-Ok.ensures.value;
+      heading = h;
+      named = sym c.in_ok-try_from.ensures;
       held = entries roll;
       left = spare roll;
       closings_are = search rules;
-      scored = subst (λ ps. InFormat f (λ s p. ScoresIn p h.number h.opener (entries c.args.log.now) f ps c.args.sheet.now c.score_format.result (entries roll) (spare roll) c.score_format.new.sheet))
-          places c.score_format.ensures.scored;
+      scored = subst (λ places. InFormat h.format (λ s p. ScoresIn p h (entries c.args.log.now) places c.args.sheet.now c.score_format.result (entries roll) (spare roll) c.score_format.new.sheet))
+          (ap₂ ◌++◌ new.entries new.spare) c.score_format.ensures.scored;
     }

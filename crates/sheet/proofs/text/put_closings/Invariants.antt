@@ -1,13 +1,9 @@
-use Rattle.std.proofs.Common.{◌-◌, length, take}
+use Rattle.std.proofs.Common.{take}
 use Rattle.std.specs.List.{flat_map}
-use Rattle.roll.specs.Rolls.{entries}
 use Rattle.sheet.specs.Sinks.{Puts}
 use Rattle.sheet.specs.Text.{closing_line}
 use Rattle.sheet.proofs.text.put_closings.Given as goal
 
 -- the lines of the closings so far were put
 abbrev pub invariant-loop-closing : goal.invariant-loop-closing
-invariant-loop-closing g l = Puts g.S.Sink.takes l.initial.sink (flat_map closing_line (take l.index (entries l.closings))) l.sink
-
-abbrev pub decreases-loop-closing : goal.decreases-loop-closing
-decreases-loop-closing g l = length (entries l.closings) - l.index
+invariant-loop-closing g l = Puts g.S.Sink.takes l.initial.sink (flat_map closing_line (take l.closing-index l.closings)) l.sink

@@ -1,6 +1,0 @@
-use Rattle.sheet.proofs.Sinking.{then}
-use Rattle.sheet.proofs.text.put_match.Goals as goal
-
-pub returns : goal.returns
-returns g c =
-    then c.put_text.ensures (then c.put_number.ensures (then c.put.ensures (then c.put_text-2.ensures (then c.put_text-3.ensures (then c.put_side.ensures c.put-2.ensures)))))
