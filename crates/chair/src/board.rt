@@ -1,3 +1,6 @@
+ghost use Rattle.std.specs.Prelude.{Some};
+ghost use Rattle.chair.specs.Boards.{level_written, status_written};
+
 use crate::start::Start;
 use crate::text::level_label;
 use contest::contest::Contest;
@@ -34,6 +37,8 @@ enum Status {
 }
 
 impl fmt::Display for LevelLine {
+    ghost output = { λ line. Some (level_written line) };
+
     fn fmt<W: fmt::Write>(&self, f: &mut fmt::Formatter<W>) -> fmt::Result {
         write!(f, "  {:<20}{:>5}{:>5}", self.label, self.a, self.b)?;
         match self.won {
@@ -44,6 +49,8 @@ impl fmt::Display for LevelLine {
 }
 
 impl fmt::Display for Status {
+    ghost output = { λ status. Some (status_written status) };
+
     fn fmt<W: fmt::Write>(&self, f: &mut fmt::Formatter<W>) -> fmt::Result {
         match *self {
             Status::WonBy(side) => write!(f, "won by {side}\n"),

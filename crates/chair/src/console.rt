@@ -84,11 +84,10 @@ impl<'rt, 's, 'a, 'b, C: Contest> Console<'rt, 's, 'a, 'b, C> {
             start: self.start,
             ongoing: self.session.ongoing(),
         };
-        print!(self.rt; "{board}")?;
-        if let Some(note) = note {
-            print!(self.rt; "{note}")?;
+        match note {
+            Some(note) => println!(self.rt; "{board}{note}")?,
+            None => println!(self.rt; "{board}")?,
         }
-        println!(self.rt)?;
         Ok(())
     }
 }

@@ -1,3 +1,6 @@
+ghost use Rattle.std.specs.Prelude.{◌≡◌, Some};
+ghost use Rattle.chair.specs.Boards.{note_of, note_written};
+
 use crate::session::reply::Reply;
 use crate::text::reason_text;
 use std::fmt;
@@ -14,7 +17,9 @@ pub enum Note {
 
 impl Note {
     // What is said of what a command came to: why it was refused.
-    pub fn of_reply(reply: Reply) -> Option<Note> {
+    pub fn of_reply(reply: Reply) -> Option<Note>
+        ensures { result ≡ note_of reply }
+    {
         match reply {
             Reply::Refused(fault) => Some(Note::Refused(fault)),
             Reply::Called | Reply::Settled(_) | Reply::Asked => None,
@@ -23,6 +28,8 @@ impl Note {
 }
 
 impl fmt::Display for Note {
+    ghost output = { λ note. Some (note_written note) };
+
     fn fmt<W: fmt::Write>(&self, f: &mut fmt::Formatter<W>) -> fmt::Result {
         match *self {
             Note::Refused(fault) => {

@@ -1,4 +1,4 @@
-ghost use Rattle.std.specs.Prelude.{◌≡◌};
+ghost use Rattle.std.specs.Prelude.{◌≡◌, ◌++◌, Some, codes};
 ghost use Rattle.chair.specs.Commands.{is_blank, unindented, unpadded, trimmed, ReadsCommand};
 
 use super::{Command, NoCommand};
@@ -75,6 +75,10 @@ pub fn command_of(line: &[u8]) -> Result<Command, NoCommand>
 }
 
 impl fmt::Display for NoCommand {
+    ghost use Rattle.chair.specs.declared.text.TheConstants.{COMMANDS};
+
+    ghost output = { λ _. Some (codes "not a command; " ++ COMMANDS.now) };
+
     fn fmt<W: fmt::Write>(&self, f: &mut fmt::Formatter<W>) -> fmt::Result {
         write!(f, "not a command; {COMMANDS}")
     }
