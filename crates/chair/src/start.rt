@@ -19,7 +19,7 @@ pub fn start_of(format: &str, number: &str, opener: &str) -> Option<Start>
     ensures { IfSome result (λ start. (name_of start.format ≡ format.now) × (letter start.opener ∷ [] ≡ opener.now)) }
 {
     Some(Start {
-        format: Format::from_name(format)?,
+        format: format.parse().ok()?,
         number: number.parse().ok()?,
         opener: opener.parse().ok()?,
     })

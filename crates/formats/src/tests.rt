@@ -1,5 +1,6 @@
 // The numbers that a layer's rules may have: at each bound, one that is allowed and one that is refused.
 use crate::piles::game;
+use contest::goal::Goal;
 use contest::race::Race;
 use contest::rally::Rally;
 use contest::service::rules::Stay;
@@ -7,7 +8,7 @@ use contest::switch::Switch;
 
 // The number of the refusal of such a race, or 0.
 fn race(target: u16, lead: u16, cap: u16) -> u8 {
-    match Race::new(target, lead, cap, Stay, Rally::new()) {
+    match Race::new(Goal::new(target, lead, cap), Stay, Rally::new()) {
         Ok(_) => 0,
         Err(fault) => fault.number(),
     }
@@ -15,7 +16,13 @@ fn race(target: u16, lead: u16, cap: u16) -> u8 {
 
 // The same of a switch.
 fn switch(target: u16, lead: u16, cap: u16, threshold: u16) -> u8 {
-    match Switch::new(target, lead, cap, threshold, Stay, game(), game()) {
+    match Switch::new(
+        Goal::new(target, lead, cap),
+        threshold,
+        Stay,
+        game(),
+        game(),
+    ) {
         Ok(_) => 0,
         Err(fault) => fault.number(),
     }
