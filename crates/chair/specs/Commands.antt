@@ -1,8 +1,9 @@
 -- The words of the umpire's commands, and the blanks that may stand around one.
-use Rattle.std.specs.Prelude.{◌≡◌, ℕ, Bool, cond, ◌||◌, ◌⊎◌, List, [], ◌∷◌, codes, ◌==◌}
+use Rattle.std.specs.Prelude.{◌≡◌, ℕ, Bool, cond, ◌||◌, ◌⊎◌, List, [], ◌∷◌, codes, ◌==◌, Result, MatchResult}
 use Rattle.contest.specs.declared.side.Side.TheVariants.{A, B}
 use Rattle.rally_log.specs.declared.entry.Entry.TheVariants.{Let, Point}
 use Rattle.chair.specs.declared.command.Command.{Command}
+use Rattle.chair.specs.declared.command.NoCommand.{NoCommand}
 
 -- a space, a tab or a carriage return
 abbrev pub is_blank : ℕ → Bool
@@ -48,3 +49,7 @@ letter Command.Quit = codes "q"
 -- a text says a command
 abbrev pub Says : List ℕ → Command → Type 0
 Says text k = (text ≡ word k) ⊎ (text ≡ letter k)
+
+-- r is the command that the text says, or it says none
+abbrev pub ReadsCommand : List ℕ → Result Command NoCommand → Type 0
+ReadsCommand text r = MatchResult r (λ k. Says text k) (λ _. (k : Command) → Says text k → ⊥)

@@ -1,3 +1,4 @@
+pub mod Boards
 pub mod Commands
 pub mod Ready
 pub mod Sessions

@@ -98,3 +98,11 @@ module _ {S : Type 0} (r : Contest S) where
   held_after c (Some q) (Command.Settle e) = if_refused (outcome_refusal c e (numbers_of q)) (Some q) None
   held_after c held Command.Score = held
   held_after c held Command.Quit = held
+
+-- The session s did the command k and became s', and a was replied. pile and standing say which pile a value of the code is, and where it stands.
+pub record Did {C : Type 0} {h : Shape} (pile : C → Pile h) (standing : C → StandingOf h) (s s' : Session C) (k : Command) (a : Reply) : Type 0 where
+  -- the pile keeps its rules
+  pub kept : pile s'.ongoing.pile ≡ pile s.ongoing.pile
+  pub reply : a ≡ reply_to (session_rules pile s) (session_state standing s) s.held k
+  pub after : session_state standing s' ≡ left_by (session_rules pile s) (session_state standing s) s.held k
+  pub held : s'.held ≡ held_after (session_rules pile s) (session_state standing s) s.held k

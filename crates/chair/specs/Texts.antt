@@ -1,16 +1,9 @@
--- The words on the board, and those of the arguments.
+-- The words on the board.
 use Rattle.std.specs.Prelude.{ℕ, zero, suc, Bool, true, false, List, codes}
-use Rattle.contest.specs.declared.side.Side.{Side}
-use Rattle.contest.specs.declared.side.Side.TheVariants.{A, B}
 use Rattle.formats.specs.declared.format.Format.{Format}
 use Rattle.formats.specs.declared.format.Format.TheVariants.{Game, Tennis3, Tennis5, TennisMt, Badminton, Volleyball, Table5, SideOut}
 use Rattle.umpire.specs.declared.rally.CallFault.{CallFault}
 use Rattle.umpire.specs.declared.rally.CallFault.TheVariants.{Decided, RallyOpen, LogCount, LogFull, OtherRally}
-
--- a side
-abbrev pub side_written : Side → List ℕ
-side_written A = codes "A"
-side_written B = codes "B"
 
 -- what tennis counts at a depth, above its points
 abbrev pub tennis_counts : ℕ → List ℕ

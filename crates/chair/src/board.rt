@@ -1,79 +1,101 @@
-// The score as the umpire sees it.
-use crate::session::reply::Reply;
+ghost use Rattle.std.specs.Prelude.{Some};
+ghost use Rattle.chair.specs.Boards.{level_written, status_written};
+
 use crate::start::Start;
-use crate::text::{level_label, reason_text, side_text};
+use crate::text::level_label;
 use contest::contest::Contest;
 use contest::level::Level;
-use std::alloc::{AllocError, Global};
+use contest::side::Side;
+use std::fmt;
 use umpire::matches::Match;
 
 // More levels than any format has.
 const DEPTHS: u16 = 16;
 
-// The counts of a level under its label. A contest below the match that is won says so.
-fn level_line(heap: Global, label: &str, level: Level, below: bool) -> Result<String, AllocError> {
-    let a = level.a;
-    let b = level.b;
-    match level.winner {
-        Some(side) if below => {
-            let side = side_text(side);
-            format!(in heap; "  {label:<20}{a:>5}{b:>5}   won by {side}\n")
+// The score as the umpire sees it: the match, its levels from the outside in, and how it stands.
+#[derive_where(Clone, Copy)]
+pub struct Board<'a, C> {
+    pub start: Start,
+    pub ongoing: &'a Match<C>,
+}
+
+// The counts of a level under its label, and who has won it, if that is said.
+#[derive(Clone, Copy)]
+struct LevelLine {
+    label: &'static str,
+    a: u16,
+    b: u16,
+    won: Option<Side>,
+}
+
+// How a match stands.
+#[derive(Clone, Copy)]
+enum Status {
+    WonBy(Side),
+    // Who serves, and the number of the open rally, if one is open.
+    Serves(Side, Option<u16>),
+}
+
+impl fmt::Display for LevelLine {
+    ghost output = { λ line. Some (level_written line) };
+
+    fn fmt<W: fmt::Write>(&self, f: &mut fmt::Formatter<W>) -> fmt::Result {
+        write!(f, "  {:<20}{:>5}{:>5}", self.label, self.a, self.b)?;
+        match self.won {
+            Some(side) => write!(f, "   won by {side}\n"),
+            None => write!(f, "\n"),
         }
-        _ => format!(in heap; "  {label:<20}{a:>5}{b:>5}\n"),
     }
 }
 
-// Who has won, or who serves and whether a rally is open.
-fn status_line<C: Contest>(heap: Global, ongoing: &Match<C>) -> Result<String, AllocError> {
-    if let Some(side) = ongoing.winner() {
-        let side = side_text(side);
-        return format!(in heap; "won by {side}\n");
-    }
-    let side = side_text(ongoing.server());
-    match ongoing.totals().in_play {
-        Some(number) => format!(in heap; "serves {side}, rally {number} is open\n"),
-        None => format!(in heap; "serves {side}, no rally is open\n"),
-    }
-}
+impl fmt::Display for Status {
+    ghost output = { λ status. Some (status_written status) };
 
-// The whole block: the match, its levels from the outside in, and how it stands.
-pub fn board<C: Contest>(
-    heap: Global,
-    start: Start,
-    ongoing: &Match<C>,
-) -> Result<String, AllocError> {
-    let number = start.number;
-    let name = start.format.name();
-    let title = format!(in heap; "match {number} {name}")?;
-    let mut text = format!(in heap; "{title:<22}    A    B\n")?;
-    for depth in 0..DEPTHS {
-        let Some(level) = ongoing.level(depth) else {
-            break;
-        };
-        let innermost = ongoing.level(depth + 1).is_none();
-        let label = level_label(start.format, depth, innermost);
-        text.push_str(level_line(heap, label, level, depth > 0)?.as_str())?;
-    }
-    text.push_str(status_line(heap, ongoing)?.as_str())?;
-    Ok(text)
-}
-
-// What is said under the score of what a command came to: why it was refused.
-pub fn reply_note(heap: Global, reply: Reply) -> Result<String, AllocError> {
-    match reply {
-        Reply::Refused(fault) => {
-            let number = fault.number();
-            let reason = reason_text(fault);
-            format!(in heap; "refused ({number}): {reason}\n")
+    fn fmt<W: fmt::Write>(&self, f: &mut fmt::Formatter<W>) -> fmt::Result {
+        match *self {
+            Status::WonBy(side) => write!(f, "won by {side}\n"),
+            Status::Serves(side, Some(number)) => {
+                write!(f, "serves {side}, rally {number} is open\n")
+            }
+            Status::Serves(side, None) => write!(f, "serves {side}, no rally is open\n"),
         }
-        Reply::Called | Reply::Settled(_) | Reply::Asked => Ok(String::new(heap)),
     }
 }
 
-// What is said under the last score, of the rally that was open.
-pub fn close_note(heap: Global, open: Option<u16>) -> Result<String, AllocError> {
-    match open {
-        Some(number) => format!(in heap; "rally {number} was open: it is a let\n"),
-        None => Ok(String::new(heap)),
+impl<'a, C: Contest> Board<'a, C> {
+    // The line of the level at a depth, if there is one. Who has won the match itself is said by its status.
+    fn level_line(&self, depth: u16) -> Option<LevelLine> {
+        let Level { a, b, winner } = self.ongoing.level(depth)?;
+        let innermost = self.ongoing.level(depth.saturating_add(1)).is_none();
+        Some(LevelLine {
+            label: level_label(self.start.format, depth, innermost),
+            a,
+            b,
+            won: if depth > 0 { winner } else { None },
+        })
+    }
+
+    fn status(&self) -> Status {
+        match self.ongoing.winner() {
+            Some(side) => Status::WonBy(side),
+            None => Status::Serves(self.ongoing.server(), self.ongoing.totals().in_play),
+        }
+    }
+}
+
+impl<'a, C: Contest> fmt::Display for Board<'a, C> {
+    fn fmt<W: fmt::Write>(&self, f: &mut fmt::Formatter<W>) -> fmt::Result {
+        let number = self.start.number;
+        // of the title's 22 columns, those that "match", the blanks and the number leave for the name
+        let room = 14 - number.checked_ilog10().unwrap_or(0) as usize;
+        let name = self.start.format.name();
+        write!(f, "match {number} {name:<room$}    A    B\n")?;
+        for depth in 0..DEPTHS {
+            let Some(line) = self.level_line(depth) else {
+                break;
+            };
+            write!(f, "{line}")?;
+        }
+        write!(f, "{}", self.status())
     }
 }

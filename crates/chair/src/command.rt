@@ -14,3 +14,7 @@ pub enum Command {
     // End the session.
     Quit,
 }
+
+// What is no command.
+#[derive(Clone, Copy)]
+pub struct NoCommand;

@@ -8,105 +8,36 @@
 
 mod board;
 mod command;
+mod console;
 mod log_file;
+mod note;
 mod session;
 mod start;
 mod text;
 
 use anyhow::anyhow;
-use board::{board, close_note, reply_note};
-use command::Command;
-use command::parsing::{command_of, without_blanks};
+use console::Console;
 use contest::contest::Contest;
 use contest::service::Service;
 use formats::format::Format;
 use formats::piles;
-use log_file::append;
 use rally_log::entry::Entry;
 use roll::Roll;
 use roll::records::MOST;
 use session::Session;
 use start::{Start, start_of};
 use std::env;
-use std::fs::File;
-use std::io::BufRead;
-use text::{COMMANDS, USAGE};
-use umpire::matches::Match;
-
-// Shows the score, and under it a note.
-fn show<C: Contest>(
-    rt: &HostRuntime,
-    start: Start,
-    ongoing: &Match<C>,
-    note: &str,
-) -> anyhow::Result<()> {
-    let board = board(rt.alloc(), start, ongoing)?;
-    println!(rt; "{board}{note}")?;
-    Ok(())
-}
-
-// Obeys the lines of the standard input, up to `quit` or their end.
-fn attend<C: Contest>(
-    rt: &HostRuntime,
-    start: Start,
-    session: &mut Session<C>,
-    file: &mut File,
-) -> anyhow::Result<()> {
-    for line in rt.stdin().lock().split(rt.alloc(), b'\n') {
-        let line = line?;
-        if without_blanks(line.as_slice()).is_empty() {
-            continue;
-        }
-        match command_of(line.as_slice()) {
-            Some(Command::Quit) => break,
-            Some(command) => {
-                let reply = session.obey(command);
-                append(rt, file, reply.record())?;
-                let note = reply_note(rt.alloc(), reply)?;
-                show(rt, start, session.ongoing(), note.as_str())?;
-            }
-            None => println!(rt; "not a command; {COMMANDS}\n")?,
-        }
-    }
-    Ok(())
-}
-
-// Settles a rally that is open as a let, and shows the last score.
-fn close<C: Contest>(
-    rt: &HostRuntime,
-    start: Start,
-    session: &mut Session<C>,
-    file: &mut File,
-) -> anyhow::Result<()> {
-    let open = session.ongoing().totals().in_play;
-    let reply = session.close();
-    append(rt, file, reply.record())?;
-    let note = close_note(rt.alloc(), open)?;
-    show(rt, start, session.ongoing(), note.as_str())?;
-    println!(rt; "the log is in {}", log_file::LOG)?;
-    Ok(())
-}
-
-// The session, from the first score to the last.
-fn sit<C: Contest>(
-    rt: &HostRuntime,
-    start: Start,
-    session: &mut Session<C>,
-    file: &mut File,
-) -> anyhow::Result<()> {
-    println!(rt; "{COMMANDS}\n")?;
-    show(rt, start, session.ongoing(), "")?;
-    attend(rt, start, session, file)?;
-    close(rt, start, session, file)
-}
+use text::USAGE;
 
 // Leads a match over the pile. A rally that an error leaves open is settled here, and not in the file.
 fn lead<C: Contest + Drop>(rt: &HostRuntime, start: Start, pile: C) -> anyhow::Result<()> {
     let mut places = vec![in rt.alloc(); Entry::Let; MOST]?;
     let mut log = Roll::new(&mut places);
-    let mut file = log_file::create(rt, start, &log)?;
+    let file = log_file::create(rt, start, &log)?;
     let mut session = Session::new(start.number, pile, start.opener, &mut log);
-    let led = sit(rt, start, &mut session, &mut file);
+    let mut console = Console::new(rt, start, &mut session, file);
+    let led = console.sit();
+    drop(console); // and with it what it borrows: the session is this function's again
     session.close();
     let Session {
         ongoing: _,
@@ -115,10 +46,11 @@ fn lead<C: Contest + Drop>(rt: &HostRuntime, start: Start, pile: C) -> anyhow::R
     } = session;
     match held {
         None => led,
-        Some(_rally) => unreachable(),
+        Some(_rally) => unreachable!(),
     }
 }
 
+// One arm for each format, since each pile is of a type of its own.
 fn lead_format(rt: &HostRuntime, start: Start) -> anyhow::Result<()> {
     match start.format {
         Format::Game => lead(rt, start, piles::game()),
@@ -135,13 +67,14 @@ fn lead_format(rt: &HostRuntime, start: Start) -> anyhow::Result<()> {
 // The match of the arguments, if they name one.
 fn arguments(rt: &HostRuntime) -> anyhow::Result<Option<Start>> {
     let mut words = env::args(rt)?.skip(1);
-    let (Some(format), Some(number), Some(opener)) = (words.next(), words.next(), words.next())
-    else {
+    let (Some(format), Some(number), Some(opener), None) = (
+        words.next(),
+        words.next(),
+        words.next(),
+        words.next(),
+    ) else {
         return Ok(None);
     };
-    if words.next().is_some() {
-        return Ok(None);
-    }
     Ok(start_of(format.as_str(), number.as_str(), opener.as_str()))
 }
 

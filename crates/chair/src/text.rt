@@ -1,8 +1,7 @@
 // The words that the umpire reads.
 ghost use Rattle.std.specs.Prelude.{◌≡◌};
-ghost use Rattle.chair.specs.Texts.{side_written, counts_above, label, reason_written};
+ghost use Rattle.chair.specs.Texts.{counts_above, label, reason_written};
 
-use contest::side::Side;
 use formats::format::Format;
 use umpire::rally::CallFault;
 
@@ -26,15 +25,6 @@ The log is written to rally.log in the current folder. Then type one command a l
 
 in short: r, a, b, l, s, q
 ";
-
-pub fn side_text(side: Side) -> &'static str
-    ensures { result.now ≡ side_written side }
-{
-    match side {
-        Side::A => "A",
-        Side::B => "B",
-    }
-}
 
 // What a format counts at a depth, above its points.
 fn counted_above(format: Format, depth: u16) -> &'static str

@@ -1,10 +1,12 @@
-ghost use Rattle.std.specs.Prelude.{◌≡◌, MatchOption};
-ghost use Rattle.chair.specs.Commands.{is_blank, unindented, unpadded, trimmed, Says};
+ghost use Rattle.std.specs.Prelude.{◌≡◌, ◌++◌, Some, codes};
+ghost use Rattle.chair.specs.Commands.{is_blank, unindented, unpadded, trimmed, ReadsCommand};
 
-use super::Command;
+use super::{Command, NoCommand};
+use crate::text::COMMANDS;
 use contest::side::Side;
 use rally_log::entry::Entry;
-use std::str::from_utf8;
+use std::fmt;
+use std::str::{FromStr, from_utf8};
 
 fn is_blank(byte: u8) -> bool
     ensures { result ≡ is_blank byte }
@@ -13,25 +15,27 @@ fn is_blank(byte: u8) -> bool
 }
 
 // The line without the blanks before its first word.
-fn skip_blanks(line: &[u8]) -> &[u8]
-    ensures { result.now ≡ unindented line.now }
+fn skip_blanks(mut line: &[u8]) -> &[u8]
+    ensures { result.now ≡ unindented line.entry.now }
 {
-    let mut from = 0;
-    while from < line.len() && is_blank(line[from]) {
-        from += 1;
+    while let [first, rest @ ..] = line
+        && is_blank(*first)
+    {
+        line = rest;
     }
-    &line[from..]
+    line
 }
 
 // The line without the blanks behind its last word.
-fn cut_blanks(line: &[u8]) -> &[u8]
-    ensures { result.now ≡ unpadded line.now }
+fn cut_blanks(mut line: &[u8]) -> &[u8]
+    ensures { result.now ≡ unpadded line.entry.now }
 {
-    let mut to = line.len();
-    while to > 0 && is_blank(line[to - 1]) {
-        to -= 1;
+    while let [rest @ .., last] = line
+        && is_blank(*last)
+    {
+        line = rest;
     }
-    &line[0..to]
+    line
 }
 
 // The line without the blanks around it.
@@ -42,26 +46,40 @@ pub fn without_blanks(line: &[u8]) -> &[u8]
 }
 
 // The command of a word or of its short form.
-fn command_of_word(word: &str) -> Option<Command>
-    ensures { MatchOption result ((k : Command) → Says word.now k → ⊥) (λ k. Says word.now k) }
-{
-    match word {
-        "rally" | "r" => Some(Command::Rally),
-        "A" | "a" => Some(Command::Settle(Entry::Point(Side::A))),
-        "B" | "b" => Some(Command::Settle(Entry::Point(Side::B))),
-        "let" | "l" => Some(Command::Settle(Entry::Let)),
-        "score" | "s" => Some(Command::Score),
-        "quit" | "q" => Some(Command::Quit),
-        _ => None,
+impl FromStr for Command {
+    type Err = NoCommand;
+
+    ghost from_str_gives = { ReadsCommand };
+
+    fn from_str(word: &str) -> Result<Command, NoCommand> {
+        match word {
+            "rally" | "r" => Ok(Command::Rally),
+            "A" | "a" => Ok(Command::Settle(Entry::Point(Side::A))),
+            "B" | "b" => Ok(Command::Settle(Entry::Point(Side::B))),
+            "let" | "l" => Ok(Command::Settle(Entry::Let)),
+            "score" | "s" => Ok(Command::Score),
+            "quit" | "q" => Ok(Command::Quit),
+            _ => Err(NoCommand),
+        }
     }
 }
 
 // The command that a line says, with or without blanks around it.
-pub fn command_of(line: &[u8]) -> Option<Command>
-    ensures { MatchOption result ((k : Command) → Says (trimmed line.now) k → ⊥) (λ k. Says (trimmed line.now) k) }
+pub fn command_of(line: &[u8]) -> Result<Command, NoCommand>
+    ensures { ReadsCommand (trimmed line.now) result }
 {
     match from_utf8(without_blanks(line)) {
-        Ok(word) => command_of_word(word),
-        Err(_) => None,
+        Ok(word) => word.parse(),
+        Err(_) => Err(NoCommand),
+    }
+}
+
+impl fmt::Display for NoCommand {
+    ghost use Rattle.chair.specs.declared.text.TheConstants.{COMMANDS};
+
+    ghost output = { λ _. Some (codes "not a command; " ++ COMMANDS.now) };
+
+    fn fmt<W: fmt::Write>(&self, f: &mut fmt::Formatter<W>) -> fmt::Result {
+        write!(f, "not a command; {COMMANDS}")
     }
 }

@@ -4,7 +4,7 @@ ghost use Rattle.umpire.specs.Calls.{opened};
 ghost use Rattle.umpire.specs.States.{places_of};
 ghost use Rattle.rally_log.specs.declared.entry.Entry.TheVariants.{Let as LetEntry};
 ghost use Rattle.chair.specs.declared.command.Command.TheVariants.{Rally as RallyCommand, Settle as SettleCommand};
-ghost use Rattle.chair.specs.Sessions.{session_state, session_rules, logged, left_by, held_after, reply_to, close_reply, left_at_close, Grows};
+ghost use Rattle.chair.specs.Sessions.{session_state, logged, Did, close_reply, left_at_close, Grows};
 
 use super::Session;
 use super::reply::Reply;
@@ -45,15 +45,12 @@ impl<'a, 'b, C: Contest> Session<'a, 'b, C> {
 
     // Calls a rally.
     fn call(&mut self) -> Reply
-        ensures kept { C.Contest.pile self.new.ongoing.pile ≡ C.Contest.pile self.old.ongoing.pile }
-        ensures reply { result ≡ reply_to (session_rules C.Contest.pile self.old) (session_state C.Contest.standing self.old) self.old.held RallyCommand }
-        ensures after { session_state C.Contest.standing self.new ≡ left_by (session_rules C.Contest.pile self.old) (session_state C.Contest.standing self.old) self.old.held RallyCommand }
-        ensures held { self.new.held ≡ held_after (session_rules C.Contest.pile self.old) (session_state C.Contest.standing self.old) self.old.held RallyCommand }
+        ensures { Did C.Contest.pile C.Contest.standing self.old self.new RallyCommand result }
     {
         match self.ongoing.call(self.log) {
             Ok(rally) => match self.held.replace(rally) {
                 None => Reply::Called,
-                Some(_other) => unreachable(),
+                Some(_other) => unreachable!(),
             },
             Err(fault) => Reply::Refused(fault),
         }
@@ -61,10 +58,7 @@ impl<'a, 'b, C: Contest> Session<'a, 'b, C> {
 
     // Settles the held rally. One that is not settled is held again.
     fn settle(&mut self, outcome: Entry) -> Reply
-        ensures kept { C.Contest.pile self.new.ongoing.pile ≡ C.Contest.pile self.old.ongoing.pile }
-        ensures reply { result ≡ reply_to (session_rules C.Contest.pile self.old) (session_state C.Contest.standing self.old) self.old.held (SettleCommand outcome) }
-        ensures after { session_state C.Contest.standing self.new ≡ left_by (session_rules C.Contest.pile self.old) (session_state C.Contest.standing self.old) self.old.held (SettleCommand outcome) }
-        ensures held { self.new.held ≡ held_after (session_rules C.Contest.pile self.old) (session_state C.Contest.standing self.old) self.old.held (SettleCommand outcome) }
+        ensures { Did C.Contest.pile C.Contest.standing self.old self.new (SettleCommand outcome) result }
     {
         let Some(rally) = self.held.take() else {
             return Reply::Refused(CallFault::OtherRally);
@@ -77,17 +71,14 @@ impl<'a, 'b, C: Contest> Session<'a, 'b, C> {
             Ok(()) => Reply::Settled(outcome),
             Err(Unsettled { rally, fault }) => match self.held.replace(rally) {
                 None => Reply::Refused(fault),
-                Some(_other) => unreachable(),
+                Some(_other) => unreachable!(),
             },
         }
     }
 
     // Does what the umpire says.
     pub fn obey(&mut self, command: Command) -> Reply
-        ensures kept { C.Contest.pile self.new.ongoing.pile ≡ C.Contest.pile self.old.ongoing.pile }
-        ensures reply { result ≡ reply_to (session_rules C.Contest.pile self.old) (session_state C.Contest.standing self.old) self.old.held command }
-        ensures after { session_state C.Contest.standing self.new ≡ left_by (session_rules C.Contest.pile self.old) (session_state C.Contest.standing self.old) self.old.held command }
-        ensures held { self.new.held ≡ held_after (session_rules C.Contest.pile self.old) (session_state C.Contest.standing self.old) self.old.held command }
+        ensures did { Did C.Contest.pile C.Contest.standing self.old self.new command result }
         ensures grows { Grows (logged self.old) (logged self.new) result }
     {
         match command {
@@ -110,7 +101,7 @@ impl<'a, 'b, C: Contest> Session<'a, 'b, C> {
         };
         match self.ongoing.settle_let(self.log, rally) {
             Ok(()) => Reply::Settled(Entry::Let),
-            Err(_unsettled) => unreachable(),
+            Err(_unsettled) => unreachable!(),
         }
     }
 }

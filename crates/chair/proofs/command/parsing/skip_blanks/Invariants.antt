@@ -1,9 +1,9 @@
-use Rattle.std.proofs.Common.{◌≡◌, ◌-◌, ◌≤◌, length, drop}
+use Rattle.std.proofs.Common.{◌≡◌, length}
 use Rattle.chair.specs.Commands.{unindented}
 use Rattle.chair.proofs.command.parsing.skip_blanks.Given as goal
 
-abbrev pub invariant-loop-from : goal.invariant-loop-from
-invariant-loop-from l = (l.from ≤ length l.line) × (unindented l.line ≡ unindented (drop l.from l.line))
+abbrev pub invariant-loop-line : goal.invariant-loop-line
+invariant-loop-line l = unindented l.initial.line ≡ unindented l.line
 
-abbrev pub decreases-loop-from : goal.decreases-loop-from
-decreases-loop-from l = length l.line - l.from
+abbrev pub decreases-loop-line : goal.decreases-loop-line
+decreases-loop-line l = length l.line
