@@ -109,6 +109,7 @@ impl<C: Contest, P: Service> Contest for Race<C, P> {
         self.below.open(opener);
     }
 
+    #[tactic(auto, using(crate::proofs::Points::not_refused))]
     fn point(&mut self, side: Side) -> Result<(), ContestFault>
         ensures own { (race_pile C.Contest.pile P.Service.rule self.new ≡ race_pile C.Contest.pile P.Service.rule self.old) × (race_standing C.Contest.standing self.new ≡ given (contest_of (race_pile C.Contest.pile P.Service.rule self.old)) (race_standing C.Contest.standing self.old) side) × (result ≡ answered ((contest_of (race_pile C.Contest.pile P.Service.rule self.old)).play.winner (race_standing C.Contest.standing self.old))) }
     {

@@ -1,8 +1,7 @@
 ghost use Rattle.std.specs.Prelude.{◌≡◌, ◌+◌, ◌<◌, ◌≤◌, ◌↔◌, Some, None, MatchResult};
 ghost use Rattle.contest.specs.Faults.{goal_fault, threshold_allowed};
-ghost use Rattle.contest.specs.Goals.{Wins, reaches, winner_by, none_yet, tallied};
+ghost use Rattle.contest.specs.Goals.{Within, Wins, reaches, winner_by, none_yet, tallied};
 ghost use Rattle.contest.specs.Layers.{own_level};
-ghost use Rattle.contest.specs.GoalsLemmas.{Within};
 
 use crate::counts::Counts;
 use crate::fault::RuleFault;

@@ -58,6 +58,8 @@ impl<C: Contest, D: Contest, P: Service> Switch<C, D, P> {
         play_points(self, opener, points)
     }
 
+    // What the contest below that was opened last answers. A function that takes both questions, as `self.ask(C::winner, D::winner)`,
+    // would only save the `if`, and its contract would have to speak of calls.
     fn winner_below(&self) -> Option<Side>
         ensures { result ≡ (switch_layer (switch_pile C.Contest.pile D.Contest.pile P.Service.rule self.now)).below.winner (switch_standing C.Contest.standing D.Contest.standing self.now).below }
     {
@@ -174,11 +176,11 @@ impl<C: Contest, D: Contest, P: Service> Contest for Switch<C, D, P> {
     ghost standing = { switch_standing C.Contest.standing D.Contest.standing };
 
     ghost sound = { λ s. (
-        no_switch_fault s.tally.goal s.threshold s.tally.allowed s.allowed,
-        P.Service.fair s.service,
-        C.Contest.sound s.ordinary,
-        D.Contest.sound s.deciding,
-        ) };
+      no_switch_fault s.tally.goal s.threshold s.tally.allowed s.allowed,
+      P.Service.fair s.service,
+      C.Contest.sound s.ordinary,
+      D.Contest.sound s.deciding,
+    ) };
 
     fn open(&mut self, opener: Side)
         ensures own { (switch_pile C.Contest.pile D.Contest.pile P.Service.rule self.new ≡ switch_pile C.Contest.pile D.Contest.pile P.Service.rule self.old) × (switch_standing C.Contest.standing D.Contest.standing self.new ≡ (contest_of (switch_pile C.Contest.pile D.Contest.pile P.Service.rule self.old)).opening opener) }
@@ -188,6 +190,7 @@ impl<C: Contest, D: Contest, P: Service> Contest for Switch<C, D, P> {
         self.open_below(opener);
     }
 
+    #[tactic(auto, using(crate::proofs::Points::not_refused))]
     fn point(&mut self, side: Side) -> Result<(), ContestFault>
         ensures own { (switch_pile C.Contest.pile D.Contest.pile P.Service.rule self.new ≡ switch_pile C.Contest.pile D.Contest.pile P.Service.rule self.old) × (switch_standing C.Contest.standing D.Contest.standing self.new ≡ given (contest_of (switch_pile C.Contest.pile D.Contest.pile P.Service.rule self.old)) (switch_standing C.Contest.standing D.Contest.standing self.old) side) × (result ≡ answered ((contest_of (switch_pile C.Contest.pile D.Contest.pile P.Service.rule self.old)).play.winner (switch_standing C.Contest.standing D.Contest.standing self.old))) }
     {
