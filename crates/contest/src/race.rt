@@ -60,7 +60,8 @@ impl<C: Contest, P: Service> Race<C, P> {
             last_opener: self.below.opener(),
             server: self.below.server(),
             winner,
-            counts: self.tally.counts(),
+            a: self.tally.a(),
+            b: self.tally.b(),
         })
     }
 

@@ -1,7 +1,6 @@
 ghost use Rattle.std.specs.Prelude.{◌≡◌};
 ghost use Rattle.contest.specs.Service.{Rule, Fair};
 
-use crate::counts::Counts;
 use crate::side::Side;
 
 pub mod rules;
@@ -14,7 +13,8 @@ pub struct Situation {
     pub last_opener: Side,
     pub server: Side,
     pub winner: Side,
-    pub counts: Counts,
+    pub a: u16,
+    pub b: u16,
 }
 
 // A service rule: it names the side that opens the next lower contest.

@@ -11,7 +11,6 @@ ghost use Rattle.contest.specs.GoalsLemmas.{no_switch_fault};
 
 use super::Switch;
 use crate::contest::Contest;
-use crate::counts::Counts;
 use crate::depth::closed_above;
 use crate::fault::{ContestFault, RuleFault};
 use crate::goal::Goal;
@@ -119,7 +118,8 @@ impl<C: Contest, D: Contest, P: Service> Switch<C, D, P> {
             last_opener: self.opener_below(),
             server: self.server_below(),
             winner,
-            counts: self.tally.counts(),
+            a: self.tally.a(),
+            b: self.tally.b(),
         })
     }
 
@@ -127,8 +127,7 @@ impl<C: Contest, D: Contest, P: Service> Switch<C, D, P> {
     fn open_below(&mut self, opener: Side)
         ensures { OpenedBelow (switch_pile C.Contest.pile D.Contest.pile P.Service.rule) switch_layer (switch_standing C.Contest.standing D.Contest.standing) self.old self.new opener }
     {
-        let Counts { a, b } = self.tally.counts();
-        self.decides = a >= self.threshold && b >= self.threshold;
+        self.decides = self.tally.a() >= self.threshold && self.tally.b() >= self.threshold;
         if self.decides {
             self.deciding.open(opener);
         } else {
