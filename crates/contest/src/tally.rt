@@ -68,6 +68,7 @@ impl Tally {
         }
     }
 
+    // The counts one by one: a copy of both would be read across the last write to one of them, for which the processor has to wait.
     pub(crate) fn a(&self) -> u16
         ensures { result ≡ self.now.counts.a }
     {
