@@ -7,7 +7,7 @@ pub mod rules;
 
 // All that a service rule is told, once a lower contest is decided: who opened the contest above and the
 // last lower contest, which server and winner that one names, and both counts after it.
-// The counts stand one by one here too, since a copy of both at once is slower (see the tally's).
+// The counts stand one by one, as a tally lends them: a copy of both at once is slower.
 #[derive(Clone, Copy)]
 pub struct Situation {
     pub opener: Side,
