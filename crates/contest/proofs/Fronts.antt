@@ -21,7 +21,7 @@ not_won None r e k = refl
 not_won (Some w) r e k = cc
 
 has_won : (w : Option Side) (r : Result Unit ContestFault) → r ≡ answered w → true ≡ is_err r → (x : Side) × (w ≡ Some x)
-has_won None r e k = let z : ◌≡◌ {A = ℕ} 0 1 = cc in absurd (omega arith)
+has_won None r e k = absurd (cc)
 has_won (Some w) r e k = (w, refl)
 
 refused : {S : Type 0} (c : Contest S) (s : S) (x w : Side) → c.play.winner s ≡ Some w → given c s x ≡ s

@@ -26,7 +26,7 @@ opposite_twice A = refl
 opposite_twice B = refl
 
 abbrev situation : Side → Counts → Side → Side → Side → Situation
-situation o n lo s w = record { opener = o; last_opener = lo; server = s; winner = w; counts = n }
+situation o n lo s w = record { opener = o; last_opener = lo; server = s; winner = w; a = n.a; b = n.b }
 
 module _ {S : Type 0} (l : Layer S) (fair : Fair l.service) (play : FairPlay l.below) (opens : FairOpens l) where
   next_opener_mirrored : (s : Standing S) (w : Side) → next_opener l ((layer l).play.mirror s) (opposite w) ≡ opposite (next_opener l s w)

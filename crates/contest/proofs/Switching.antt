@@ -1,5 +1,6 @@
 -- The laws of a switch, from those of its service and of the two contests below.
-use Rattle.std.proofs.Common.{◌≡◌, ℕ, Bool, true, false, cond, ◌&&◌, leb, ◌⊎◌, List, [], ◌∷◌, Some, None, refl, ap, ◌∙◌, inl, inr}
+use Rattle.std.proofs.Common.{◌≡◌, ℕ, Bool, true, false, cond, leb, ◌⊎◌, List, [], ◌∷◌, Some, None, ap, ◌∙◌, inl, inr}
+use Rattle.std.proofs.Math.Bool.{and_comm}
 use Rattle.contest.specs.Sides.{opposite, option_opposite, option_swapped}
 use Rattle.contest.specs.Contests.{Play, Contest, FairPlay, Laws, Taken}
 use Rattle.contest.specs.Service.{Rule, Fair}
@@ -53,12 +54,6 @@ module _ {S T : Type 0} (p : Play S) (q : Play T) (hp : FairPlay p) (hq : FairPl
     mirror_level = mirror_level;
   }
 
-and_swapped : (x y : Bool) → x && y ≡ y && x
-and_swapped true true = refl
-and_swapped true false = refl
-and_swapped false true = refl
-and_swapped false false = refl
-
 module _ {S T : Type 0} (c : Contest S) (d : Contest T) (hc : Laws c) (hd : Laws d) where
   pub chosen_winner : (b : Bool) (x : Side) → (either_play c.play d.play).winner (chosen b (c.opening x) (d.opening x)) ≡ None
   chosen_winner true x = hd.opening_fair.open_winner x
@@ -81,7 +76,7 @@ module _ {S T : Type 0} (c : Contest S) (d : Contest T) (hc : Laws c) (hd : Laws
     open_winner = λ n x. chosen_winner (decisive k n) x;
     open_opener = λ n x. chosen_opener (decisive k n) x;
     open_server = λ n x. chosen_server (decisive k n) x;
-    mirror_opens = λ n x. chosen_mirror (decisive k n) x ∙ ap (λ b. chosen b (c.opening (opposite x)) (d.opening (opposite x))) (and_swapped (leb k n.a) (leb k n.b));
+    mirror_opens = λ n x. chosen_mirror (decisive k n) x ∙ ap (λ b. chosen b (c.opening (opposite x)) (d.opening (opposite x))) (and_comm (leb k n.a) (leb k n.b));
   }
 
   pub switch_laws : (g : Goal) (r : Rule) (k : ℕ) → Fair r → Laws (switch g r k c d)

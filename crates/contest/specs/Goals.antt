@@ -1,5 +1,5 @@
 -- The counts of a layer, and who has won by them under a target, a lead and a cap.
-use Rattle.std.specs.Prelude.{◌≡◌, ℕ, ◌+◌, ◌≤◌, Bool, cond, ◌&&◌, ◌||◌, ◌⊎◌, Some, None, Option, ◌==◌, nat_le, nat_lt}
+use Rattle.std.specs.Prelude.{◌≡◌, ℕ, ◌+◌, ◌<◌, ◌≤◌, Bool, cond, ◌&&◌, ◌||◌, ◌⊎◌, Some, None, Option, ◌==◌, nat_le, nat_lt}
 use Rattle.contest.specs.declared.counts.Counts.{Counts}
 use Rattle.contest.specs.declared.goal.Goal.{Goal}
 use Rattle.contest.specs.declared.side.Side.{Side}
@@ -21,6 +21,10 @@ tallied n B = record { a = n.a; b = n.b + 1 }
 -- the counts in the mirror
 abbrev pub swapped_counts : Counts → Counts
 swapped_counts n = record { a = n.b; b = n.a }
+
+-- counts that play can come to: neither is past the cap, and they are not both there
+abbrev pub Within : Goal → Counts → Type 0
+Within g n = (n.a ≤ g.cap) × (n.b ≤ g.cap) × (n.a + n.b < g.cap + g.cap)
 
 -- the rule, word for word: a count x against y is at least the target and ahead by the lead, or equal to the cap
 abbrev pub Reaches : Goal → ℕ → ℕ → Type 0

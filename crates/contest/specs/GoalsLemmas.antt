@@ -5,7 +5,7 @@ use Rattle.std.proofs.lemmas.Bool.{and_parts, or_cases, leb-true, eqb-true}
 use Rattle.std.proofs.lemmas.Bool.Decides.{nat_tests}
 use Rattle.contest.specs.Sides.{opposite, option_opposite}
 use Rattle.contest.specs.Faults.{goal_fault, switch_fault, or_threshold, threshold_allowed}
-use Rattle.contest.specs.Goals.{Reaches, Wins, none_yet, reaches, winner_by, tallied, swapped_counts}
+use Rattle.contest.specs.Goals.{Within, Reaches, Wins, none_yet, reaches, winner_by, tallied, swapped_counts}
 use Rattle.contest.specs.Layers.{recounted}
 use Rattle.contest.specs.declared.counts.Counts.{Counts}
 use Rattle.contest.specs.declared.goal.Goal.{Goal}
@@ -41,10 +41,6 @@ reaches_by g x y e =
 by_reaches : (g : Goal) (x y : ℕ) → Reaches g x y → reaches g x y ≡ true
 by_reaches g x y (inl h) = grind (arith, nat_tests)
 by_reaches g x y (inr h) = grind (arith, nat_tests)
-
--- counts that play can come to: neither is past the cap, and they are not both there
-abbrev pub Within : Goal → Counts → Type 0
-Within g n = (n.a ≤ g.cap) × (n.b ≤ g.cap) × (n.a + n.b < g.cap + g.cap)
 
 -- where nobody has won, no count is at the cap
 pub below_cap : (g : Goal) (n : Counts) → Within g n → winner_by g n ≡ None → (n.a < g.cap) × (n.b < g.cap)

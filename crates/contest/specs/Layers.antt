@@ -28,7 +28,7 @@ stands o n s = record { opener = o; counts = n; below = s }
 
 -- the side that the service rule names to open the next lower contest, once w has won the last
 abbrev pub next_opener : {S : Type 0} → Layer S → Standing S → Side → Side
-next_opener l s w = l.service (record { opener = s.opener; last_opener = l.below.opener s.below; server = l.below.server s.below; winner = w; counts = s.counts })
+next_opener l s w = l.service (record { opener = s.opener; last_opener = l.below.opener s.below; server = l.below.server s.below; winner = w; a = s.counts.a; b = s.counts.b })
 
 -- the contest below that takes the next point: the one that stands, or, where that has the winner w, one opened anew
 abbrev pub ready : {S : Type 0} → Layer S → Standing S → Option Side → S

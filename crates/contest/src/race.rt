@@ -60,7 +60,8 @@ impl<C: Contest, P: Service> Race<C, P> {
             last_opener: self.below.opener(),
             server: self.below.server(),
             winner,
-            counts: self.tally.counts(),
+            a: self.tally.a(),
+            b: self.tally.b(),
         })
     }
 
@@ -109,6 +110,7 @@ impl<C: Contest, P: Service> Contest for Race<C, P> {
         self.below.open(opener);
     }
 
+    #[tactic(auto, using(crate::proofs::Points::not_refused))]
     fn point(&mut self, side: Side) -> Result<(), ContestFault>
         ensures own { (race_pile C.Contest.pile P.Service.rule self.new ≡ race_pile C.Contest.pile P.Service.rule self.old) × (race_standing C.Contest.standing self.new ≡ given (contest_of (race_pile C.Contest.pile P.Service.rule self.old)) (race_standing C.Contest.standing self.old) side) × (result ≡ answered ((contest_of (race_pile C.Contest.pile P.Service.rule self.old)).play.winner (race_standing C.Contest.standing self.old))) }
     {

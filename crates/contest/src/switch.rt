@@ -7,6 +7,8 @@ use crate::tally::Tally;
 pub mod layer;
 
 // A layer over two contests: while both counts are at least the threshold it opens the deciding one, otherwise the ordinary one.
+// It is no instance of one type with `Race`, whose methods are alike: a trait for what stands below would repeat all of `Contest`, and `allowed`
+// would name it, so that each definition in specs/ which speaks of a race or a switch would have to take the trait's members too.
 #[derive(Drop)]
 pub struct Switch<C, D, P> {
     tally: Tally,

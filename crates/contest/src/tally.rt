@@ -1,8 +1,7 @@
 ghost use Rattle.std.specs.Prelude.{◌≡◌, ◌+◌, ◌<◌, ◌≤◌, ◌↔◌, Some, None, MatchResult};
 ghost use Rattle.contest.specs.Faults.{goal_fault, threshold_allowed};
-ghost use Rattle.contest.specs.Goals.{Wins, reaches, winner_by, none_yet, tallied};
+ghost use Rattle.contest.specs.Goals.{Within, Wins, reaches, winner_by, none_yet, tallied};
 ghost use Rattle.contest.specs.Layers.{own_level};
-ghost use Rattle.contest.specs.GoalsLemmas.{Within};
 
 use crate::counts::Counts;
 use crate::fault::RuleFault;
@@ -43,16 +42,16 @@ impl Tally {
     pub(crate) fn allows(&self, threshold: u16) -> bool
         ensures { result ≡ threshold_allowed self.now.goal threshold }
     {
-        let Goal { target, lead, cap } = self.goal;
-        (1..cap).contains(&threshold) && (lead != 1 || threshold < target)
+        (1..self.goal.cap).contains(&threshold)
+            && (self.goal.lead != 1 || threshold < self.goal.target)
     }
 
     // A count x against y is at least the target and ahead by the lead, or equal to the cap.
     fn reaches(&self, x: u16, y: u16) -> bool
         ensures { result ≡ reaches self.now.goal x y }
     {
-        let Goal { target, lead, cap } = self.goal;
-        (x >= target && x as u32 >= y as u32 + lead as u32) || x == cap
+        (x >= self.goal.target && x as u32 >= y as u32 + self.goal.lead as u32)
+            || x == self.goal.cap
     }
 
     // The winner by the counts, which is exactly the side whose count reaches the goal.
@@ -60,20 +59,26 @@ impl Tally {
         ensures ahead { result ≡ winner_by self.now.goal self.now.counts }
         ensures exactly { (x : Side) → (result ≡ Some x) ↔ Wins self.now.goal x self.now.counts }
     {
-        let Counts { a, b } = self.counts;
-        if a > b && self.reaches(a, b) {
+        if self.a() > self.b() && self.reaches(self.a(), self.b()) {
             Some(Side::A)
-        } else if b > a && self.reaches(b, a) {
+        } else if self.b() > self.a() && self.reaches(self.b(), self.a()) {
             Some(Side::B)
         } else {
             None
         }
     }
 
-    pub(crate) fn counts(&self) -> Counts
-        ensures { result ≡ self.now.counts }
+    // The counts one by one: a copy of both would be read across the last write to one of them, for which the processor has to wait.
+    pub(crate) fn a(&self) -> u16
+        ensures { result ≡ self.now.counts.a }
     {
-        self.counts
+        self.counts.a
+    }
+
+    pub(crate) fn b(&self) -> u16
+        ensures { result ≡ self.now.counts.b }
+    {
+        self.counts.b
     }
 
     // Both counts at 0.
@@ -81,7 +86,8 @@ impl Tally {
         ensures goal { self.new.goal ≡ self.old.goal }
         ensures counts { self.new.counts ≡ none_yet }
     {
-        self.counts = Counts { a: 0, b: 0 };
+        self.counts.a = 0;
+        self.counts.b = 0;
     }
 
     // One more for a side. Nobody has won yet, so both counts are below the cap.
@@ -100,10 +106,9 @@ impl Tally {
     pub(crate) fn level(&self) -> Level
         ensures { result ≡ own_level self.now.goal self.now.counts }
     {
-        let Counts { a, b } = self.counts;
         Level {
-            a,
-            b,
+            a: self.counts.a,
+            b: self.counts.b,
             winner: self.winner(),
         }
     }

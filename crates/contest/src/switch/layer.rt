@@ -11,7 +11,6 @@ ghost use Rattle.contest.specs.GoalsLemmas.{no_switch_fault};
 
 use super::Switch;
 use crate::contest::Contest;
-use crate::counts::Counts;
 use crate::depth::closed_above;
 use crate::fault::{ContestFault, RuleFault};
 use crate::goal::Goal;
@@ -58,6 +57,8 @@ impl<C: Contest, D: Contest, P: Service> Switch<C, D, P> {
         play_points(self, opener, points)
     }
 
+    // What the contest below that was opened last answers. A function that takes both questions, as `self.ask(C::winner, D::winner)`,
+    // would only save the `if`, and its contract would have to speak of calls.
     fn winner_below(&self) -> Option<Side>
         ensures { result ≡ (switch_layer (switch_pile C.Contest.pile D.Contest.pile P.Service.rule self.now)).below.winner (switch_standing C.Contest.standing D.Contest.standing self.now).below }
     {
@@ -117,7 +118,8 @@ impl<C: Contest, D: Contest, P: Service> Switch<C, D, P> {
             last_opener: self.opener_below(),
             server: self.server_below(),
             winner,
-            counts: self.tally.counts(),
+            a: self.tally.a(),
+            b: self.tally.b(),
         })
     }
 
@@ -125,8 +127,7 @@ impl<C: Contest, D: Contest, P: Service> Switch<C, D, P> {
     fn open_below(&mut self, opener: Side)
         ensures { OpenedBelow (switch_pile C.Contest.pile D.Contest.pile P.Service.rule) switch_layer (switch_standing C.Contest.standing D.Contest.standing) self.old self.new opener }
     {
-        let Counts { a, b } = self.tally.counts();
-        self.decides = a >= self.threshold && b >= self.threshold;
+        self.decides = self.tally.a() >= self.threshold && self.tally.b() >= self.threshold;
         if self.decides {
             self.deciding.open(opener);
         } else {
@@ -174,11 +175,11 @@ impl<C: Contest, D: Contest, P: Service> Contest for Switch<C, D, P> {
     ghost standing = { switch_standing C.Contest.standing D.Contest.standing };
 
     ghost sound = { λ s. (
-        no_switch_fault s.tally.goal s.threshold s.tally.allowed s.allowed,
-        P.Service.fair s.service,
-        C.Contest.sound s.ordinary,
-        D.Contest.sound s.deciding,
-        ) };
+      no_switch_fault s.tally.goal s.threshold s.tally.allowed s.allowed,
+      P.Service.fair s.service,
+      C.Contest.sound s.ordinary,
+      D.Contest.sound s.deciding,
+    ) };
 
     fn open(&mut self, opener: Side)
         ensures own { (switch_pile C.Contest.pile D.Contest.pile P.Service.rule self.new ≡ switch_pile C.Contest.pile D.Contest.pile P.Service.rule self.old) × (switch_standing C.Contest.standing D.Contest.standing self.new ≡ (contest_of (switch_pile C.Contest.pile D.Contest.pile P.Service.rule self.old)).opening opener) }
@@ -188,6 +189,7 @@ impl<C: Contest, D: Contest, P: Service> Contest for Switch<C, D, P> {
         self.open_below(opener);
     }
 
+    #[tactic(auto, using(crate::proofs::Points::not_refused))]
     fn point(&mut self, side: Side) -> Result<(), ContestFault>
         ensures own { (switch_pile C.Contest.pile D.Contest.pile P.Service.rule self.new ≡ switch_pile C.Contest.pile D.Contest.pile P.Service.rule self.old) × (switch_standing C.Contest.standing D.Contest.standing self.new ≡ given (contest_of (switch_pile C.Contest.pile D.Contest.pile P.Service.rule self.old)) (switch_standing C.Contest.standing D.Contest.standing self.old) side) × (result ≡ answered ((contest_of (switch_pile C.Contest.pile D.Contest.pile P.Service.rule self.old)).play.winner (switch_standing C.Contest.standing D.Contest.standing self.old))) }
     {
