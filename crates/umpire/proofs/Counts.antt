@@ -23,22 +23,12 @@ use Rattle.umpire.proofs.Inductions.{stands, logged, spared, all_called, same_nu
 
 -- the points among the rallies settled are the points taken
 of_call : (k : Call) → points_in (entry_of k) ≡ point_of k
-of_call Call.Rally = refl
 of_call (Call.Point x t) = refl
-of_call (Call.Let t) = refl
-of_call Call.Winner = refl
-of_call Call.Server = refl
-of_call (Call.Level d) = refl
-of_call Call.Totals = refl
+of_call _ = refl
 
 one_point : (a : Answer) (k : Call) → points_in (if_granted a (entry_of k)) ≡ if_granted a (point_of k)
 one_point (Answer.Refused f) k = refl
-one_point (Answer.Called t) k = of_call k
-one_point Answer.Settled k = of_call k
-one_point (Answer.Winner w) k = of_call k
-one_point (Answer.Server x) k = of_call k
-one_point (Answer.Level l) k = of_call k
-one_point (Answer.Totals t) k = of_call k
+one_point _ k = of_call k
 
 pub points_settled : (ks : List Call) (told : List Answer) → points_in (settled ks told) ≡ taken ks told
 points_settled [] told = refl
@@ -89,11 +79,7 @@ module _ {S : Type 0} (r : Contest S) where
   one_settled_open c (Call.Let u) t s e m n =
       let same : u ≡ t = cc in
       ap (answer_unless Answer.Settled) (ap (settle_refusal c) same ∙ settle_free c t s m n)
-  one_settled_open c Call.Rally t s e m n = absurd (cc)
-  one_settled_open c Call.Winner t s e m n = absurd (cc)
-  one_settled_open c Call.Server t s e m n = absurd (cc)
-  one_settled_open c (Call.Level d) t s e m n = absurd (cc)
-  one_settled_open c Call.Totals t s e m n = absurd (cc)
+  one_settled_open c _ t s e m n = absurd (cc)
 
   one_other_refused : (c : State S) (k : Call) (t : RallyNumbers) → handed_in k ≡ Some t → (t.match_number ≡ c.number → c.totals.in_play ≡ Some t.number → ⊥) → answer_to r c k ≡ Answer.Refused OtherRally
   one_other_refused c (Call.Point x u) t e h =
@@ -103,11 +89,7 @@ module _ {S : Type 0} (r : Contest S) where
   one_other_refused c (Call.Let u) t e h =
       let same : u ≡ t = cc in
       ap (answer_unless Answer.Settled) (ap (settle_refusal c) same ∙ settle_other c t h)
-  one_other_refused c Call.Rally t e h = absurd (cc)
-  one_other_refused c Call.Winner t e h = absurd (cc)
-  one_other_refused c Call.Server t e h = absurd (cc)
-  one_other_refused c (Call.Level d) t e h = absurd (cc)
-  one_other_refused c Call.Totals t e h = absurd (cc)
+  one_other_refused c _ t e h = absurd (cc)
 
 module _ {S : Type 0} (r : Contest S) (laws : Laws r) (number : ℕ) (o : Side) (places : List Entry) where
   abbrev fresh : State S

@@ -20,12 +20,7 @@ use Rattle.umpire.proofs.Lists.{points_append, lets_append, a_append, b_append, 
 -- questions bring nothing, whatever they are answered
 pub nothing : {X : Type 0} (a : Answer) → if_granted {X = X} a [] ≡ []
 nothing (Answer.Refused f) = refl
-nothing (Answer.Called t) = refl
-nothing Answer.Settled = refl
-nothing (Answer.Winner w) = refl
-nothing (Answer.Server x) = refl
-nothing (Answer.Level l) = refl
-nothing (Answer.Totals t) = refl
+nothing _ = refl
 
 module _ {S : Type 0} (r : Contest S) where
   -- every call is answered
@@ -42,10 +37,7 @@ module _ {S : Type 0} (r : Contest S) where
   one_number c Call.Rally = number_by c (rally_called c) (call_refusal r c) refl
   one_number c (Call.Point x t) = number_by c (point_settled r c x) (point_refusal r c t) refl
   one_number c (Call.Let t) = number_by c (let_settled c) (settle_refusal c t) refl
-  one_number c Call.Winner = refl
-  one_number c Call.Server = refl
-  one_number c (Call.Level d) = refl
-  one_number c Call.Totals = refl
+  one_number c _ = refl
 
   pub same_number : (c : State S) (ks : List Call) → (left_after_all r c ks).number ≡ c.number
   same_number c [] = refl
@@ -64,10 +56,7 @@ module _ {S : Type 0} (r : Contest S) where
   one_stands c Call.Rally = same_pile c (rally_called c) (answer_to r c Call.Rally) (call_refusal r c) refl
   one_stands c (Call.Point x t) = point_stands c x (point_refusal r c t)
   one_stands c (Call.Let t) = same_pile c (let_settled c) (answer_to r c (Call.Let t)) (settle_refusal c t) refl
-  one_stands c Call.Winner = refl
-  one_stands c Call.Server = refl
-  one_stands c (Call.Level d) = refl
-  one_stands c Call.Totals = refl
+  one_stands c _ = refl
 
   pub stands : (c : State S) (ks : List Call) → (left_after_all r c ks).pile ≡ run r.play c.pile (taken ks (answers_to r c ks))
   stands c [] = refl
@@ -88,10 +77,7 @@ module _ {S : Type 0} (r : Contest S) where
   one_taken c Call.Rally = none_taken c.pile (answer_to r c Call.Rally)
   one_taken c (Call.Point x t) = point_taken c x (point_refusal r c t) (point_not_won r c t)
   one_taken c (Call.Let t) = none_taken c.pile (answer_to r c (Call.Let t))
-  one_taken c Call.Winner = tt
-  one_taken c Call.Server = tt
-  one_taken c (Call.Level d) = tt
-  one_taken c Call.Totals = tt
+  one_taken c _ = tt
 
   pub all_taken : (c : State S) (ks : List Call) → Taken r.play c.pile (taken ks (answers_to r c ks))
   all_taken c [] = tt
@@ -113,10 +99,7 @@ module _ {S : Type 0} (r : Contest S) where
   one_logged c Call.Rally = log_stays c (rally_called c) (answer_to r c Call.Rally) (call_refusal r c) refl
   one_logged c (Call.Point x t) = logs_by c (point_settled r c x) (Point x) (point_refusal r c t) refl
   one_logged c (Call.Let t) = logs_by c (let_settled c) Let (settle_refusal c t) refl
-  one_logged c Call.Winner = sym (append-nil c.log)
-  one_logged c Call.Server = sym (append-nil c.log)
-  one_logged c (Call.Level d) = sym (append-nil c.log)
-  one_logged c Call.Totals = sym (append-nil c.log)
+  one_logged c _ = sym (append-nil c.log)
 
   pub logged : (c : State S) (ks : List Call) → (left_after_all r c ks).log ≡ c.log ++ settled ks (answers_to r c ks)
   logged c [] = sym (append-nil c.log)
@@ -137,10 +120,7 @@ module _ {S : Type 0} (r : Contest S) where
   one_used c Call.Rally = spare_stays c (rally_called c) (answer_to r c Call.Rally) (call_refusal r c) refl
   one_used c (Call.Point x t) = uses_by c (point_settled r c x) (Point x) (point_refusal r c t) refl
   one_used c (Call.Let t) = uses_by c (let_settled c) Let (settle_refusal c t) refl
-  one_used c Call.Winner = refl
-  one_used c Call.Server = refl
-  one_used c (Call.Level d) = refl
-  one_used c Call.Totals = refl
+  one_used c _ = refl
 
   pub spared : (c : State S) (ks : List Call) → (left_after_all r c ks).spare ≡ drop (length (settled ks (answers_to r c ks))) c.spare
   spared c [] = refl
@@ -166,10 +146,7 @@ module _ {S : Type 0} (r : Contest S) where
   one_called c Call.Rally = calls_by c (call_refusal r c)
   one_called c (Call.Point x t) = none_called c (point_settled r c x) (answer_to r c (Call.Point x t)) (point_refusal r c t) (point_called c x)
   one_called c (Call.Let t) = none_called c (let_settled c) (answer_to r c (Call.Let t)) (settle_refusal c t) refl
-  one_called c Call.Winner = omega arith
-  one_called c Call.Server = omega arith
-  one_called c (Call.Level d) = omega arith
-  one_called c Call.Totals = omega arith
+  one_called c _ = omega arith
 
   pub all_called : (c : State S) (ks : List Call) → (left_after_all r c ks).totals.called ≡ c.totals.called + length (granted rally_of ks (answers_to r c ks))
   all_called c [] = omega arith
@@ -241,10 +218,7 @@ module _ {S : Type 0} (r : Contest S) where
   consistent_after c Call.Rally h = consistent_by c (rally_called c) (call_refusal r c) h (consistent_call c h)
   consistent_after c (Call.Point x t) h = consistent_by c (point_settled r c x) (point_refusal r c t) h (λ e. consistent_point c x h (settle_open c t (first_none (settle_refusal c t) _ e)))
   consistent_after c (Call.Let t) h = consistent_by c (let_settled c) (settle_refusal c t) h (λ e. consistent_let c h (settle_open c t e))
-  consistent_after c Call.Winner h = h
-  consistent_after c Call.Server h = h
-  consistent_after c (Call.Level d) h = h
-  consistent_after c Call.Totals h = h
+  consistent_after c _ h = h
 
   pub consistent : (c : State S) (ks : List Call) → Consistent c → Consistent (left_after_all r c ks)
   consistent c [] h = h

@@ -76,10 +76,7 @@ module _ {S : Type 0} (r : Contest S) where
       first_then LogCount _ (refused_if_won (r.play.winner c.pile)) (settle_no_count c t h) (λ _. won_no_count (r.play.winner c.pile))
       (settled_refused (point_refusal r c t) LogCount e)
   one_no_count c (Call.Let t) h e = settle_no_count c t h (settled_refused (settle_refusal c t) LogCount e)
-  one_no_count c Call.Winner h e = cc
-  one_no_count c Call.Server h e = cc
-  one_no_count c (Call.Level d) h e = cc
-  one_no_count c Call.Totals h e = cc
+  one_no_count c _ h e = cc
 
   pub never_count : (c : State S) (ks : List Call) → Consistent r c → (i : ℕ) → at (answers_to r c ks) i ≡ Some (Answer.Refused LogCount) → ⊥
   never_count c [] h i e = cc
