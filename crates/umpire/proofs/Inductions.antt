@@ -15,7 +15,7 @@ use Rattle.umpire.specs.Sums.{while_open}
 use Rattle.umpire.specs.Runs.{if_granted, granted, point_of, entry_of, rally_of, taken, settled}
 use Rattle.umpire.specs.Calls.{State, settle_refusal, point_refusal, call_refusal, point_settled, let_settled, rally_called, unless_refused, left_after, left_after_all, answer_unless, answer_to, answers_to, next_rally, opened}
 use Rattle.umpire.proofs.Refusals.{point_not_won, call_not_won, call_not_open, call_placed, settle_open, first_none}
-use Rattle.umpire.proofs.Lists.{points_append, lets_append, a_append, b_append, log_length, run_append, taken_append}
+use Rattle.umpire.proofs.Lists.{points_append, lets_append, count_append, log_length, run_append, taken_append}
 
 -- questions bring nothing, whatever they are answered
 pub nothing : {X : Type 0} (a : Answer) → if_granted {X = X} a [] ≡ []
@@ -158,8 +158,8 @@ module _ {S : Type 0} (r : Contest S) where
   -- what every call keeps
   pub record Consistent (c : State S) : Type 0 where
     pub sum : c.totals.called ≡ c.totals.a + c.totals.b + c.totals.lets + while_open c.totals.in_play
-    pub a_logged : c.totals.a ≡ (count_of A) (points_in c.log)
-    pub b_logged : c.totals.b ≡ (count_of B) (points_in c.log)
+    pub a_logged : c.totals.a ≡ count_of A (points_in c.log)
+    pub b_logged : c.totals.b ≡ count_of B (points_in c.log)
     pub lets_logged : c.totals.lets ≡ lets_in c.log
     -- a rally is open only while nobody has won
     pub unwon : while_open c.totals.in_play ≡ 1 → r.play.winner c.pile ≡ None
@@ -177,17 +177,14 @@ module _ {S : Type 0} (r : Contest S) where
       let k : while_open c.totals.in_play ≡ 0 = call_not_open r c e in
       record { sum = omega (arith, h.sum); a_logged = h.a_logged; b_logged = h.b_logged; lets_logged = h.lets_logged; unwon = λ _. call_not_won r c e; placed = λ _. call_placed r c e; newest = λ n z. cc }
 
-  a_more : (c : State S) (e : Entry) → (count_of A) (points_in (c.log ++ (e ∷ []))) ≡ (count_of A) (points_in c.log) + (count_of A) (points_in (e ∷ []))
-  a_more c e = ap (count_of A) (points_append c.log (e ∷ [])) ∙ a_append (points_in c.log) (points_in (e ∷ []))
-
-  b_more : (c : State S) (e : Entry) → (count_of B) (points_in (c.log ++ (e ∷ []))) ≡ (count_of B) (points_in c.log) + (count_of B) (points_in (e ∷ []))
-  b_more c e = ap (count_of B) (points_append c.log (e ∷ [])) ∙ b_append (points_in c.log) (points_in (e ∷ []))
+  count_more : (x : Side) (es : List Entry) (e : Entry) → count_of x (points_in (es ++ (e ∷ []))) ≡ count_of x (points_in es) + count_of x (points_in (e ∷ []))
+  count_more x es e = ap (count_of x) (points_append es (e ∷ [])) ∙ count_append x (points_in es) (points_in (e ∷ []))
 
   consistent_let : (c : State S) → Consistent c → while_open c.totals.in_play ≡ 1 → Consistent (let_settled c)
   consistent_let c h k = record {
     sum = omega (arith, h.sum);
-    a_logged = omega (arith, h.a_logged, a_more c Let);
-    b_logged = omega (arith, h.b_logged, b_more c Let);
+    a_logged = omega (arith, h.a_logged, count_more A c.log Let);
+    b_logged = omega (arith, h.b_logged, count_more B c.log Let);
     lets_logged = omega (arith, h.lets_logged, lets_append c.log (Let ∷ []));
     unwon = λ z. absurd (omega arith);
     placed = λ z. absurd (omega arith);
@@ -197,8 +194,8 @@ module _ {S : Type 0} (r : Contest S) where
   consistent_point : (c : State S) (x : Side) → Consistent c → while_open c.totals.in_play ≡ 1 → Consistent (point_settled r c x)
   consistent_point c A h k = record {
     sum = omega (arith, h.sum);
-    a_logged = omega (arith, h.a_logged, a_more c (Point A));
-    b_logged = omega (arith, h.b_logged, b_more c (Point A));
+    a_logged = omega (arith, h.a_logged, count_more A c.log (Point A));
+    b_logged = omega (arith, h.b_logged, count_more B c.log (Point A));
     lets_logged = omega (arith, h.lets_logged, lets_append c.log (Point A ∷ []));
     unwon = λ z. absurd (omega arith);
     placed = λ z. absurd (omega arith);
@@ -206,8 +203,8 @@ module _ {S : Type 0} (r : Contest S) where
   }
   consistent_point c B h k = record {
     sum = omega (arith, h.sum);
-    a_logged = omega (arith, h.a_logged, a_more c (Point B));
-    b_logged = omega (arith, h.b_logged, b_more c (Point B));
+    a_logged = omega (arith, h.a_logged, count_more A c.log (Point B));
+    b_logged = omega (arith, h.b_logged, count_more B c.log (Point B));
     lets_logged = omega (arith, h.lets_logged, lets_append c.log (Point B ∷ []));
     unwon = λ z. absurd (omega arith);
     placed = λ z. absurd (omega arith);
@@ -241,7 +238,7 @@ module _ {S : Type 0} (r : Contest S) where
 
   -- the answer at an index is that of what the calls before left
   pub told_at : (c : State S) (ks : List Call) (i : ℕ) (k : Call) → at ks i ≡ Some k → at (answers_to r c ks) i ≡ Some (answer_to r (left_after_all r c (take i ks)) k)
-  told_at c [] i k e = absurd (cc)
+  told_at c [] i k e = cc
   told_at c (j ∷ ks) zero k e = let same : j ≡ k = cc in ap (λ z. Some (answer_to r c z)) same
   told_at c (j ∷ ks) (suc i) k e = told_at (left_after r c j) ks i k e
 
