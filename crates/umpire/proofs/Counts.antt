@@ -3,7 +3,7 @@ use Rattle.std.proofs.Common.{◌≡◌, ℕ, ◌+◌, ◌-◌, ◌<◌, ◌≤�
 use Rattle.contest.specs.declared.side.Side.TheVariants.{A, B}
 use Rattle.rally_log.specs.Entries.{count_of, lets_in, points_in}
 use Rattle.std.proofs.lemmas.List.{length-drop}
-use Rattle.std.proofs.lemmas.Bool.{lt-ltb, le-ltb, and_parts, and_from, eqb-true, eq-eqb}
+use Rattle.std.proofs.lemmas.Bool.{false_from_ne_true, lt-ltb, le-ltb, and_parts, and_from, eqb-true, eq-eqb}
 use Rattle.contest.specs.Contests.{Contest, Laws, run}
 use Rattle.contest.specs.declared.side.Side.{Side}
 use Rattle.roll.specs.Rolls.{at, room}
@@ -23,22 +23,12 @@ use Rattle.umpire.proofs.Inductions.{stands, logged, spared, all_called, same_nu
 
 -- the points among the rallies settled are the points taken
 of_call : (k : Call) → points_in (entry_of k) ≡ point_of k
-of_call Call.Rally = refl
 of_call (Call.Point x t) = refl
-of_call (Call.Let t) = refl
-of_call Call.Winner = refl
-of_call Call.Server = refl
-of_call (Call.Level d) = refl
-of_call Call.Totals = refl
+of_call _ = refl
 
 one_point : (a : Answer) (k : Call) → points_in (if_granted a (entry_of k)) ≡ if_granted a (point_of k)
 one_point (Answer.Refused f) k = refl
-one_point (Answer.Called t) k = of_call k
-one_point Answer.Settled k = of_call k
-one_point (Answer.Winner w) k = of_call k
-one_point (Answer.Server x) k = of_call k
-one_point (Answer.Level l) k = of_call k
-one_point (Answer.Totals t) k = of_call k
+one_point _ k = of_call k
 
 pub points_settled : (ks : List Call) (told : List Answer) → points_in (settled ks told) ≡ taken ks told
 points_settled [] told = refl
@@ -53,21 +43,17 @@ open_is None called closed e h = ap (λ b. cond b (Some called) None) (sym (le-l
 pub same_totals : (t u : Totals) → t.called ≡ u.called → t.a ≡ u.a → t.b ≡ u.b → t.lets ≡ u.lets → t.in_play ≡ u.in_play → t ≡ u
 same_totals t u p q s v w = λ i. record { called = p i; a = q i; b = s i; lets = v i; in_play = w i }
 
-not_true : (b : Bool) → (b ≡ true → ⊥) → b ≡ false
-not_true true h = absurd (h refl)
-not_true false h = refl
-
 -- whether numbers are those of the open rally
 module _ {S : Type 0} where
   pub names_is : (c : State S) (t : RallyNumbers) (o : Option ℕ) → names_open c t o ≡ true → (t.match_number ≡ c.number) × (o ≡ Some t.number)
   names_is c t (Some n) e = let both = and_parts (eqb t.match_number c.number) (eqb t.number n) e in (eqb-true _ _ both.0, ap Some (sym (eqb-true _ _ both.1)))
-  names_is c t None e = absurd (cc)
+  names_is c t None e = cc
 
   pub names_from : (c : State S) (t : RallyNumbers) (o : Option ℕ) → t.match_number ≡ c.number → o ≡ Some t.number → names_open c t o ≡ true
   names_from c t o m e = ap (names_open c t) e ∙ and_from (eqb t.match_number c.number) (eqb t.number t.number) (eq-eqb _ _ m) (eq-eqb t.number t.number refl)
 
   names_not : (c : State S) (t : RallyNumbers) (o : Option ℕ) → (t.match_number ≡ c.number → o ≡ Some t.number → ⊥) → names_open c t o ≡ false
-  names_not c t o h = not_true (names_open c t o) (λ e. let both = names_is c t o e in h both.0 both.1)
+  names_not c t o h = false_from_ne_true (names_open c t o) (λ e. let both = names_is c t o e in h both.0 both.1)
 
 -- what refuses a call, in a consistent state
 module _ {S : Type 0} (r : Contest S) where
@@ -89,11 +75,7 @@ module _ {S : Type 0} (r : Contest S) where
   one_settled_open c (Call.Let u) t s e m n =
       let same : u ≡ t = cc in
       ap (answer_unless Answer.Settled) (ap (settle_refusal c) same ∙ settle_free c t s m n)
-  one_settled_open c Call.Rally t s e m n = absurd (cc)
-  one_settled_open c Call.Winner t s e m n = absurd (cc)
-  one_settled_open c Call.Server t s e m n = absurd (cc)
-  one_settled_open c (Call.Level d) t s e m n = absurd (cc)
-  one_settled_open c Call.Totals t s e m n = absurd (cc)
+  one_settled_open c _ t s e m n = cc
 
   one_other_refused : (c : State S) (k : Call) (t : RallyNumbers) → handed_in k ≡ Some t → (t.match_number ≡ c.number → c.totals.in_play ≡ Some t.number → ⊥) → answer_to r c k ≡ Answer.Refused OtherRally
   one_other_refused c (Call.Point x u) t e h =
@@ -103,11 +85,7 @@ module _ {S : Type 0} (r : Contest S) where
   one_other_refused c (Call.Let u) t e h =
       let same : u ≡ t = cc in
       ap (answer_unless Answer.Settled) (ap (settle_refusal c) same ∙ settle_other c t h)
-  one_other_refused c Call.Rally t e h = absurd (cc)
-  one_other_refused c Call.Winner t e h = absurd (cc)
-  one_other_refused c Call.Server t e h = absurd (cc)
-  one_other_refused c (Call.Level d) t e h = absurd (cc)
-  one_other_refused c Call.Totals t e h = absurd (cc)
+  one_other_refused c _ t e h = cc
 
 module _ {S : Type 0} (r : Contest S) (laws : Laws r) (number : ℕ) (o : Side) (places : List Entry) where
   abbrev fresh : State S

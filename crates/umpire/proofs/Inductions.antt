@@ -15,17 +15,12 @@ use Rattle.umpire.specs.Sums.{while_open}
 use Rattle.umpire.specs.Runs.{if_granted, granted, point_of, entry_of, rally_of, taken, settled}
 use Rattle.umpire.specs.Calls.{State, settle_refusal, point_refusal, call_refusal, point_settled, let_settled, rally_called, unless_refused, left_after, left_after_all, answer_unless, answer_to, answers_to, next_rally, opened}
 use Rattle.umpire.proofs.Refusals.{point_not_won, call_not_won, call_not_open, call_placed, settle_open, first_none}
-use Rattle.umpire.proofs.Lists.{points_append, lets_append, a_append, b_append, log_length, run_append, taken_append}
+use Rattle.umpire.proofs.Lists.{points_append, lets_append, count_append, log_length, run_append, taken_append}
 
 -- questions bring nothing, whatever they are answered
 pub nothing : {X : Type 0} (a : Answer) → if_granted {X = X} a [] ≡ []
 nothing (Answer.Refused f) = refl
-nothing (Answer.Called t) = refl
-nothing Answer.Settled = refl
-nothing (Answer.Winner w) = refl
-nothing (Answer.Server x) = refl
-nothing (Answer.Level l) = refl
-nothing (Answer.Totals t) = refl
+nothing _ = refl
 
 module _ {S : Type 0} (r : Contest S) where
   -- every call is answered
@@ -42,10 +37,7 @@ module _ {S : Type 0} (r : Contest S) where
   one_number c Call.Rally = number_by c (rally_called c) (call_refusal r c) refl
   one_number c (Call.Point x t) = number_by c (point_settled r c x) (point_refusal r c t) refl
   one_number c (Call.Let t) = number_by c (let_settled c) (settle_refusal c t) refl
-  one_number c Call.Winner = refl
-  one_number c Call.Server = refl
-  one_number c (Call.Level d) = refl
-  one_number c Call.Totals = refl
+  one_number c _ = refl
 
   pub same_number : (c : State S) (ks : List Call) → (left_after_all r c ks).number ≡ c.number
   same_number c [] = refl
@@ -64,10 +56,7 @@ module _ {S : Type 0} (r : Contest S) where
   one_stands c Call.Rally = same_pile c (rally_called c) (answer_to r c Call.Rally) (call_refusal r c) refl
   one_stands c (Call.Point x t) = point_stands c x (point_refusal r c t)
   one_stands c (Call.Let t) = same_pile c (let_settled c) (answer_to r c (Call.Let t)) (settle_refusal c t) refl
-  one_stands c Call.Winner = refl
-  one_stands c Call.Server = refl
-  one_stands c (Call.Level d) = refl
-  one_stands c Call.Totals = refl
+  one_stands c _ = refl
 
   pub stands : (c : State S) (ks : List Call) → (left_after_all r c ks).pile ≡ run r.play c.pile (taken ks (answers_to r c ks))
   stands c [] = refl
@@ -88,10 +77,7 @@ module _ {S : Type 0} (r : Contest S) where
   one_taken c Call.Rally = none_taken c.pile (answer_to r c Call.Rally)
   one_taken c (Call.Point x t) = point_taken c x (point_refusal r c t) (point_not_won r c t)
   one_taken c (Call.Let t) = none_taken c.pile (answer_to r c (Call.Let t))
-  one_taken c Call.Winner = tt
-  one_taken c Call.Server = tt
-  one_taken c (Call.Level d) = tt
-  one_taken c Call.Totals = tt
+  one_taken c _ = tt
 
   pub all_taken : (c : State S) (ks : List Call) → Taken r.play c.pile (taken ks (answers_to r c ks))
   all_taken c [] = tt
@@ -113,10 +99,7 @@ module _ {S : Type 0} (r : Contest S) where
   one_logged c Call.Rally = log_stays c (rally_called c) (answer_to r c Call.Rally) (call_refusal r c) refl
   one_logged c (Call.Point x t) = logs_by c (point_settled r c x) (Point x) (point_refusal r c t) refl
   one_logged c (Call.Let t) = logs_by c (let_settled c) Let (settle_refusal c t) refl
-  one_logged c Call.Winner = sym (append-nil c.log)
-  one_logged c Call.Server = sym (append-nil c.log)
-  one_logged c (Call.Level d) = sym (append-nil c.log)
-  one_logged c Call.Totals = sym (append-nil c.log)
+  one_logged c _ = sym (append-nil c.log)
 
   pub logged : (c : State S) (ks : List Call) → (left_after_all r c ks).log ≡ c.log ++ settled ks (answers_to r c ks)
   logged c [] = sym (append-nil c.log)
@@ -137,10 +120,7 @@ module _ {S : Type 0} (r : Contest S) where
   one_used c Call.Rally = spare_stays c (rally_called c) (answer_to r c Call.Rally) (call_refusal r c) refl
   one_used c (Call.Point x t) = uses_by c (point_settled r c x) (Point x) (point_refusal r c t) refl
   one_used c (Call.Let t) = uses_by c (let_settled c) Let (settle_refusal c t) refl
-  one_used c Call.Winner = refl
-  one_used c Call.Server = refl
-  one_used c (Call.Level d) = refl
-  one_used c Call.Totals = refl
+  one_used c _ = refl
 
   pub spared : (c : State S) (ks : List Call) → (left_after_all r c ks).spare ≡ drop (length (settled ks (answers_to r c ks))) c.spare
   spared c [] = refl
@@ -166,10 +146,7 @@ module _ {S : Type 0} (r : Contest S) where
   one_called c Call.Rally = calls_by c (call_refusal r c)
   one_called c (Call.Point x t) = none_called c (point_settled r c x) (answer_to r c (Call.Point x t)) (point_refusal r c t) (point_called c x)
   one_called c (Call.Let t) = none_called c (let_settled c) (answer_to r c (Call.Let t)) (settle_refusal c t) refl
-  one_called c Call.Winner = omega arith
-  one_called c Call.Server = omega arith
-  one_called c (Call.Level d) = omega arith
-  one_called c Call.Totals = omega arith
+  one_called c _ = omega arith
 
   pub all_called : (c : State S) (ks : List Call) → (left_after_all r c ks).totals.called ≡ c.totals.called + length (granted rally_of ks (answers_to r c ks))
   all_called c [] = omega arith
@@ -181,8 +158,8 @@ module _ {S : Type 0} (r : Contest S) where
   -- what every call keeps
   pub record Consistent (c : State S) : Type 0 where
     pub sum : c.totals.called ≡ c.totals.a + c.totals.b + c.totals.lets + while_open c.totals.in_play
-    pub a_logged : c.totals.a ≡ (count_of A) (points_in c.log)
-    pub b_logged : c.totals.b ≡ (count_of B) (points_in c.log)
+    pub a_logged : c.totals.a ≡ count_of A (points_in c.log)
+    pub b_logged : c.totals.b ≡ count_of B (points_in c.log)
     pub lets_logged : c.totals.lets ≡ lets_in c.log
     -- a rally is open only while nobody has won
     pub unwon : while_open c.totals.in_play ≡ 1 → r.play.winner c.pile ≡ None
@@ -200,17 +177,14 @@ module _ {S : Type 0} (r : Contest S) where
       let k : while_open c.totals.in_play ≡ 0 = call_not_open r c e in
       record { sum = omega (arith, h.sum); a_logged = h.a_logged; b_logged = h.b_logged; lets_logged = h.lets_logged; unwon = λ _. call_not_won r c e; placed = λ _. call_placed r c e; newest = λ n z. cc }
 
-  a_more : (c : State S) (e : Entry) → (count_of A) (points_in (c.log ++ (e ∷ []))) ≡ (count_of A) (points_in c.log) + (count_of A) (points_in (e ∷ []))
-  a_more c e = ap (count_of A) (points_append c.log (e ∷ [])) ∙ a_append (points_in c.log) (points_in (e ∷ []))
-
-  b_more : (c : State S) (e : Entry) → (count_of B) (points_in (c.log ++ (e ∷ []))) ≡ (count_of B) (points_in c.log) + (count_of B) (points_in (e ∷ []))
-  b_more c e = ap (count_of B) (points_append c.log (e ∷ [])) ∙ b_append (points_in c.log) (points_in (e ∷ []))
+  count_more : (x : Side) (es : List Entry) (e : Entry) → count_of x (points_in (es ++ (e ∷ []))) ≡ count_of x (points_in es) + count_of x (points_in (e ∷ []))
+  count_more x es e = ap (count_of x) (points_append es (e ∷ [])) ∙ count_append x (points_in es) (points_in (e ∷ []))
 
   consistent_let : (c : State S) → Consistent c → while_open c.totals.in_play ≡ 1 → Consistent (let_settled c)
   consistent_let c h k = record {
     sum = omega (arith, h.sum);
-    a_logged = omega (arith, h.a_logged, a_more c Let);
-    b_logged = omega (arith, h.b_logged, b_more c Let);
+    a_logged = omega (arith, h.a_logged, count_more A c.log Let);
+    b_logged = omega (arith, h.b_logged, count_more B c.log Let);
     lets_logged = omega (arith, h.lets_logged, lets_append c.log (Let ∷ []));
     unwon = λ z. absurd (omega arith);
     placed = λ z. absurd (omega arith);
@@ -220,8 +194,8 @@ module _ {S : Type 0} (r : Contest S) where
   consistent_point : (c : State S) (x : Side) → Consistent c → while_open c.totals.in_play ≡ 1 → Consistent (point_settled r c x)
   consistent_point c A h k = record {
     sum = omega (arith, h.sum);
-    a_logged = omega (arith, h.a_logged, a_more c (Point A));
-    b_logged = omega (arith, h.b_logged, b_more c (Point A));
+    a_logged = omega (arith, h.a_logged, count_more A c.log (Point A));
+    b_logged = omega (arith, h.b_logged, count_more B c.log (Point A));
     lets_logged = omega (arith, h.lets_logged, lets_append c.log (Point A ∷ []));
     unwon = λ z. absurd (omega arith);
     placed = λ z. absurd (omega arith);
@@ -229,8 +203,8 @@ module _ {S : Type 0} (r : Contest S) where
   }
   consistent_point c B h k = record {
     sum = omega (arith, h.sum);
-    a_logged = omega (arith, h.a_logged, a_more c (Point B));
-    b_logged = omega (arith, h.b_logged, b_more c (Point B));
+    a_logged = omega (arith, h.a_logged, count_more A c.log (Point B));
+    b_logged = omega (arith, h.b_logged, count_more B c.log (Point B));
     lets_logged = omega (arith, h.lets_logged, lets_append c.log (Point B ∷ []));
     unwon = λ z. absurd (omega arith);
     placed = λ z. absurd (omega arith);
@@ -241,10 +215,7 @@ module _ {S : Type 0} (r : Contest S) where
   consistent_after c Call.Rally h = consistent_by c (rally_called c) (call_refusal r c) h (consistent_call c h)
   consistent_after c (Call.Point x t) h = consistent_by c (point_settled r c x) (point_refusal r c t) h (λ e. consistent_point c x h (settle_open c t (first_none (settle_refusal c t) _ e)))
   consistent_after c (Call.Let t) h = consistent_by c (let_settled c) (settle_refusal c t) h (λ e. consistent_let c h (settle_open c t e))
-  consistent_after c Call.Winner h = h
-  consistent_after c Call.Server h = h
-  consistent_after c (Call.Level d) h = h
-  consistent_after c Call.Totals h = h
+  consistent_after c _ h = h
 
   pub consistent : (c : State S) (ks : List Call) → Consistent c → Consistent (left_after_all r c ks)
   consistent c [] h = h
@@ -267,7 +238,7 @@ module _ {S : Type 0} (r : Contest S) where
 
   -- the answer at an index is that of what the calls before left
   pub told_at : (c : State S) (ks : List Call) (i : ℕ) (k : Call) → at ks i ≡ Some k → at (answers_to r c ks) i ≡ Some (answer_to r (left_after_all r c (take i ks)) k)
-  told_at c [] i k e = absurd (cc)
+  told_at c [] i k e = cc
   told_at c (j ∷ ks) zero k e = let same : j ≡ k = cc in ap (λ z. Some (answer_to r c z)) same
   told_at c (j ∷ ks) (suc i) k e = told_at (left_after r c j) ks i k e
 

@@ -109,10 +109,7 @@ module _ {S : Type 0} (r : Contest S) (laws : Laws r) where
     left_image Call.Rally = subst (λ o. Image r (left_after r c Call.Rally) (unless_refused (mirrored r c ys) (rally_called (mirrored r c ys)) o)) (sym call_same) (by_image r c (rally_called c) (rally_called (mirrored r c ys)) ys ys (call_refusal r c) h h (λ _. rally_mirrored c ys))
     left_image (Call.Point x t) = subst (λ o. Image r (left_after r c (Call.Point x t)) (unless_refused (mirrored r c ys) (point_settled r (mirrored r c ys) (opposite x)) o)) (sym (point_same t)) (by_image r c (point_settled r c x) (point_settled r (mirrored r c ys) (opposite x)) ys (drop 1 ys) (point_refusal r c t) h one_fewer (λ e. point_mirrored c ys x (point_not_won r c t e)))
     left_image (Call.Let t) = subst (λ o. Image r (left_after r c (Call.Let t)) (unless_refused (mirrored r c ys) (let_settled (mirrored r c ys)) o)) (sym (settle_same t)) (by_image r c (let_settled c) (let_settled (mirrored r c ys)) ys (drop 1 ys) (settle_refusal c t) h one_fewer (λ _. let_mirrored c ys))
-    left_image Call.Winner = record { places = ys; as_many = h; is = refl }
-    left_image Call.Server = record { places = ys; as_many = h; is = refl }
-    left_image (Call.Level d) = record { places = ys; as_many = h; is = refl }
-    left_image Call.Totals = record { places = ys; as_many = h; is = refl }
+    left_image _ = record { places = ys; as_many = h; is = refl }
 
     told_same : (k : Call) → answer_to r (mirrored r c ys) (mirrored_call k) ≡ mirrored_answer (answer_to r c k)
     unfolding mirrored

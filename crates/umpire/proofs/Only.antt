@@ -23,10 +23,10 @@ module _ {X : Type 0} where
   -- two lists that agree so far, and at the next place
   agree_more : (xs ys : List X) (i : ℕ) → take i xs ≡ take i ys → at xs i ≡ at ys i → take (suc i) xs ≡ take (suc i) ys
   agree_more [] [] i e f = refl
-  agree_more [] (y ∷ ys) zero e f = absurd (cc)
-  agree_more [] (y ∷ ys) (suc i) e f = absurd (cc)
-  agree_more (x ∷ xs) [] zero e f = absurd (cc)
-  agree_more (x ∷ xs) [] (suc i) e f = absurd (cc)
+  agree_more [] (y ∷ ys) zero e f = cc
+  agree_more [] (y ∷ ys) (suc i) e f = cc
+  agree_more (x ∷ xs) [] zero e f = cc
+  agree_more (x ∷ xs) [] (suc i) e f = cc
   agree_more (x ∷ xs) (y ∷ ys) zero e f = let same : x ≡ y = cc in ap (λ z. z ∷ []) same
   agree_more (x ∷ xs) (y ∷ ys) (suc i) e f =
       let same : x ≡ y = cc in
@@ -37,7 +37,7 @@ module _ {X : Type 0} where
   past_both : {Y : Type 0} (xs : List X) (ys : List Y) (i : ℕ) → length xs ≡ length ys → at ys i ≡ None → at xs i ≡ None
   past_both [] ys i e f = refl
   past_both (x ∷ xs) [] i e f = absurd (omega arith)
-  past_both (x ∷ xs) (y ∷ ys) zero e f = absurd (cc)
+  past_both (x ∷ xs) (y ∷ ys) zero e f = cc
   past_both (x ∷ xs) (y ∷ ys) (suc i) e f = past_both xs ys i (omega arith) f
 
 -- what the first calls bring follows from their answers

@@ -15,27 +15,27 @@ first_none (Some f) y e = e
 first_none None y e = refl
 
 pub later_none : (x y : Option CallFault) → first_refusal x y ≡ None → y ≡ None
-later_none (Some f) y e = absurd (cc)
+later_none (Some f) y e = cc
 later_none None y e = e
 
 pub not_won : (w : Option Side) → refused_if_won w ≡ None → w ≡ None
-not_won (Some x) e = absurd (cc)
+not_won (Some x) e = cc
 not_won None e = refl
 
 pub not_open : (o : Option ℕ) → refused_if_open o ≡ None → while_open o ≡ 0
-not_open (Some x) e = absurd (cc)
+not_open (Some x) e = cc
 not_open None e = refl
 
 -- a check that does not refuse has passed its test
 pub passed : (b : Bool) (f : CallFault) → refused_unless b f ≡ None → b ≡ true
 passed true f e = refl
-passed false f e = absurd (cc)
+passed false f e = cc
 
 module _ {S : Type 0} where
   -- settling wants a rally that is open
   names_some : (c : State S) (t : RallyNumbers) (o : Option ℕ) → refused_unless (names_open c t o) OtherRally ≡ None → while_open o ≡ 1
   names_some c t (Some n) e = refl
-  names_some c t None e = absurd (cc)
+  names_some c t None e = cc
 
   pub settle_open : (c : State S) (t : RallyNumbers) → settle_refusal c t ≡ None → while_open c.totals.in_play ≡ 1
   settle_open c t e = names_some c t c.totals.in_play (first_none _ (log_refusal c) e)

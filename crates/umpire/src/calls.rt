@@ -96,9 +96,6 @@ impl From<Result<(), CallFault>> for Answer {
     ghost from_gives = { λ res answer. answer ≡ settle_answer res };
 
     fn from(res: Result<(), CallFault>) -> Answer {
-        match res {
-            Ok(()) => Answer::Settled,
-            Err(fault) => Answer::Refused(fault),
-        }
+        res.map_or_else(Answer::Refused, |()| Answer::Settled)
     }
 }

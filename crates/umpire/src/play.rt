@@ -50,8 +50,7 @@ pub fn play<C: Contest>(
     let mut ongoing = Match::new(number, pile, opener);
     let count = answers.capacity().min(calls.len());
     for call in &calls[..count] {
-        let answer = make_call(&mut ongoing, log, *call);
-        let _ = answers.push(answer);
+        answers.push(make_call(&mut ongoing, log, *call)).unwrap();
     }
     let totals = ongoing.totals();
     Played {

@@ -44,9 +44,15 @@ fn logs_that_are_refused(rt: HostRuntime) {
     let mut log = Roll::new(&mut places);
     let mut ongoing = Match::new(7, Rally::new(), Side::A);
     assert_eq!(rt; number(ongoing.call_and_settle(&mut log, Entry::Let)), None);
-    assert_eq!(rt; number(ongoing.call_and_settle(&mut log, Entry::Let)), Some(9));
+    assert_eq!(rt;
+        number(ongoing.call_and_settle(&mut log, Entry::Let)),
+        Some(9)
+    );
     log.clear();
-    assert_eq!(rt; number(ongoing.call_and_settle(&mut log, Entry::Let)), Some(8));
+    assert_eq!(rt;
+        number(ongoing.call_and_settle(&mut log, Entry::Let)),
+        Some(8)
+    );
 }
 
 fn numbers(match_number: u16, number: u16) -> RallyNumbers {

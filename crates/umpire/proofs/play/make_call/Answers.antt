@@ -11,6 +11,6 @@ returns-in-Point-clause-answer g c =
     let r = rules_of g.C.Contest.pile c.args.ongoing.now in
     let d = state_of g.C.Contest.standing c.args.ongoing.now c.args.log.now in
     c.into-in-Point.ensures
-    ∙ settled_told _ _ _ _ c.settle_point-res.ensures.answer c.map_err.ensures.cases
+    ∙ settled_told c.new.result (point_refusal r d (numbers_of c.new.result)) _ _ c.settle_point-res.ensures.answer c.map_err.ensures.cases
     ∙ ap (λ q. answer_unless Answer.Settled (point_refusal r d (numbers_of q))) c.new.ensures
     ∙ ap (answer_to r d) (sym c.in-Point.is)

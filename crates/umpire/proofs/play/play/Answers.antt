@@ -21,9 +21,9 @@ loop-call-preserved g c =
     let fresh = c.clear-2.new.self in
     let ks = take c.min-count.result c.args.calls.now in
     let few : c.loop-call.call-index < min (length (spare fresh)) 30000 = omega (arith, length-take c.min-count.result c.args.calls.now, c.min-count.ensures, c.capacity.ensures, ap length c.clear-2.ensures.entries) in (
-      c.make_call-answer.ensures.steps.kept ∙ c.loop-call.invariant.0,
-      one_more _ (contest_of (g.C.Contest.pile c.loop-call.ongoing.pile)) _ ks (spare fresh) _ _ (entries c.loop-call.answers) (spare c.loop-call.answers) _ _ _ Call.Rally c.make_call-answer.result c.loop-call.invariant.1 c.loop-call-test.true few (ap (λ p. contest_of p) c.loop-call.invariant.0) c.make_call-answer.ensures.steps.after c.make_call-answer.ensures.answer c.push.ensures.entries c.push.ensures.spare,
-      c.make_call-answer.ensures.steps.same ∙ c.loop-call.invariant.2,
+      c.make_call.ensures.steps.kept ∙ c.loop-call.invariant.0,
+      one_more _ (contest_of (g.C.Contest.pile c.loop-call.ongoing.pile)) _ ks (spare fresh) _ _ (entries c.loop-call.answers) (spare c.loop-call.answers) _ _ _ Call.Rally c.make_call.result c.loop-call.invariant.1 c.loop-call-test.true few (ap (λ p. contest_of p) c.loop-call.invariant.0) c.make_call.ensures.steps.after c.make_call.ensures.answer c.push.ensures.entries c.push.ensures.spare,
+      c.make_call.ensures.steps.same ∙ c.loop-call.invariant.2,
       c.push.ensures.same ∙ c.loop-call.invariant.3,
     )
 
