@@ -1,14 +1,11 @@
-// Whole matches in the formats: each function plays a match over the pile of its format. The contracts name the table's piles and
-// nothing that a pile says of itself.
+// Whole matches in the formats, each over the pile of its format. The contract names the table's piles and nothing that a pile
+// says of itself.
 #![tactic(auto)]
 
-ghost use Rattle.contest.specs.Built.{race_pile, race_standing, switch_pile, switch_standing};
-ghost use Rattle.contest.specs.Service.{stay, turn, to_winner, carry, pairs, twos};
-ghost use Rattle.formats.specs.Models.{rallies_pile, rallies_standing, sets_pile, sets_standing, hands_pile, hands_standing};
-ghost use Rattle.formats.specs.Table as table;
-ghost use Rattle.umpire.specs.Matches.{WholeMatch};
+ghost use Rattle.format_matches.specs.Formats.{WholeMatchIn};
 
 use contest::side::Side;
+use formats::format::Format;
 use formats::piles::{
     Badminton, Game, SideOut, Table5, Tennis, TennisMt, Volleyball, badminton, game, sideout,
     table5, tennis3, tennis5, tennismt, volleyball,
@@ -18,106 +15,39 @@ use roll::Roll;
 use umpire::calls::{Answer, Call, Played};
 use umpire::play::play;
 
-// A match that is one game of tennis.
-pub fn play_game(
-    number: u16,
-    opener: Side,
-    log: &mut Roll<Entry>,
-    calls: &[Call],
-    answers: &mut Roll<Answer>,
-) -> Played<Game>
-    ensures { WholeMatch (rallies_pile stay) rallies_standing table.game number opener calls.now log.old log.new answers.old answers.new result }
-{
-    play(number, game(), opener, log, calls, answers)
+// What a match in a format left.
+#[derive(Drop)]
+pub enum PlayedFormat {
+    Game(Played<Game>),
+    Tennis3(Played<Tennis>),
+    Tennis5(Played<Tennis>),
+    TennisMt(Played<TennisMt>),
+    Badminton(Played<Badminton>),
+    Volleyball(Played<Volleyball>),
+    Table5(Played<Table5>),
+    SideOut(Played<SideOut>),
 }
 
-// A tennis match of three sets.
-pub fn play_tennis3(
+// Plays a match in a format. A line for each format, as in the table.
+#[rattlefmt::skip]
+pub fn play_format(
+    format: Format,
     number: u16,
     opener: Side,
     log: &mut Roll<Entry>,
     calls: &[Call],
     answers: &mut Roll<Answer>,
-) -> Played<Tennis>
-    ensures { WholeMatch (race_pile (sets_pile stay pairs turn) (λ _. carry)) (race_standing sets_standing) table.tennis3 number opener calls.now log.old log.new answers.old answers.new result }
+) -> PlayedFormat
+    ensures { WholeMatchIn format number opener calls.now log.old log.new answers.old answers.new result }
 {
-    play(number, tennis3(), opener, log, calls, answers)
-}
-
-// A tennis match of five sets.
-pub fn play_tennis5(
-    number: u16,
-    opener: Side,
-    log: &mut Roll<Entry>,
-    calls: &[Call],
-    answers: &mut Roll<Answer>,
-) -> Played<Tennis>
-    ensures { WholeMatch (race_pile (sets_pile stay pairs turn) (λ _. carry)) (race_standing sets_standing) table.tennis5 number opener calls.now log.old log.new answers.old answers.new result }
-{
-    play(number, tennis5(), opener, log, calls, answers)
-}
-
-// A tennis match whose last set is a tie-break.
-pub fn play_tennismt(
-    number: u16,
-    opener: Side,
-    log: &mut Roll<Entry>,
-    calls: &[Call],
-    answers: &mut Roll<Answer>,
-) -> Played<TennisMt>
-    ensures { WholeMatch (switch_pile (sets_pile stay pairs turn) (rallies_pile pairs) (λ _. carry)) (switch_standing sets_standing rallies_standing) table.tennismt number opener calls.now log.old log.new answers.old answers.new result }
-{
-    play(number, tennismt(), opener, log, calls, answers)
-}
-
-// A badminton match.
-pub fn play_badminton(
-    number: u16,
-    opener: Side,
-    log: &mut Roll<Entry>,
-    calls: &[Call],
-    answers: &mut Roll<Answer>,
-) -> Played<Badminton>
-    ensures { WholeMatch (race_pile (rallies_pile to_winner) (λ _. to_winner)) (race_standing rallies_standing) table.badminton number opener calls.now log.old log.new answers.old answers.new result }
-{
-    play(number, badminton(), opener, log, calls, answers)
-}
-
-// A volleyball match.
-pub fn play_volleyball(
-    number: u16,
-    opener: Side,
-    log: &mut Roll<Entry>,
-    calls: &[Call],
-    answers: &mut Roll<Answer>,
-) -> Played<Volleyball>
-    ensures { WholeMatch (sets_pile to_winner to_winner turn) sets_standing table.volleyball number opener calls.now log.old log.new answers.old answers.new result }
-{
-    play(number, volleyball(), opener, log, calls, answers)
-}
-
-// A table tennis match of five games.
-pub fn play_table5(
-    number: u16,
-    opener: Side,
-    log: &mut Roll<Entry>,
-    calls: &[Call],
-    answers: &mut Roll<Answer>,
-) -> Played<Table5>
-    ensures { WholeMatch (race_pile (rallies_pile twos) (λ _. turn)) (race_standing rallies_standing) table.table5 number opener calls.now log.old log.new answers.old answers.new result }
-{
-    play(number, table5(), opener, log, calls, answers)
-}
-
-// A match in which only the server scores.
-pub fn play_sideout(
-    number: u16,
-    opener: Side,
-    log: &mut Roll<Entry>,
-    calls: &[Call],
-    answers: &mut Roll<Answer>,
-) -> Played<SideOut>
-    ensures { WholeMatch (race_pile (hands_pile to_winner) (λ _. to_winner)) (race_standing hands_standing) table.sideout number opener calls.now log.old log.new answers.old answers.new result }
-{
-    play(number, sideout(), opener, log, calls, answers)
+    match format {
+        Format::Game => PlayedFormat::Game(play(number, game(), opener, log, calls, answers)),
+        Format::Tennis3 => PlayedFormat::Tennis3(play(number, tennis3(), opener, log, calls, answers)),
+        Format::Tennis5 => PlayedFormat::Tennis5(play(number, tennis5(), opener, log, calls, answers)),
+        Format::TennisMt => PlayedFormat::TennisMt(play(number, tennismt(), opener, log, calls, answers)),
+        Format::Badminton => PlayedFormat::Badminton(play(number, badminton(), opener, log, calls, answers)),
+        Format::Volleyball => PlayedFormat::Volleyball(play(number, volleyball(), opener, log, calls, answers)),
+        Format::Table5 => PlayedFormat::Table5(play(number, table5(), opener, log, calls, answers)),
+        Format::SideOut => PlayedFormat::SideOut(play(number, sideout(), opener, log, calls, answers)),
+    }
 }

@@ -11,8 +11,5 @@ Begun calls (Some s) = s.calls ≡ calls
 
 -- a line changes neither the match nor the calls so far
 pub record Kept (s t : Script) : Type 0 where
-  pub format : t.format ≡ s.format
-  pub number : t.number ≡ s.number
-  pub opener : t.opener ≡ s.opener
-  pub places : t.places ≡ s.places
+  pub heading : t.heading ≡ s.heading
   pub calls : t.calls ≡ s.calls

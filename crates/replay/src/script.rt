@@ -8,53 +8,68 @@ use formats::format::Format;
 use umpire::calls::Call;
 use umpire::rally::RallyNumbers;
 
-// A match and the calls that it meets.
-#[derive(Drop)]
-pub struct Script {
+// The match of a script.
+#[derive(Clone, Copy)]
+pub struct Heading {
     pub format: Format,
     pub number: u16,
     pub opener: Side,
     // how many places its log has
     pub places: usize,
-    pub calls: Vec<Call>,
-    // the rally that a settling without numbers means: the last that a line called
-    rally: u16,
-    // whether a line has settled it
-    settled: bool,
 }
 
-fn side_word(word: &str) -> Option<Side> {
-    match word {
-        "A" => Some(Side::A),
-        "B" => Some(Side::B),
-        _ => None,
+// A match and the calls that it meets.
+#[derive(Drop)]
+pub struct Script {
+    pub heading: Heading,
+    pub calls: Vec<Call>,
+    // the rally that a settling without numbers means
+    last: LastRally,
+}
+
+// The rally that a line called last, by its number, and whether a line has settled it.
+#[derive(Clone, Copy)]
+enum LastRally {
+    Open(u16),
+    Settled(u16),
+}
+
+impl LastRally {
+    fn number(self) -> u16 {
+        match self {
+            LastRally::Open(number) | LastRally::Settled(number) => number,
+        }
     }
 }
 
-impl Script {
+impl Heading {
     // The match of a line `match FORMAT NUMBER OPENER`, with the number of the log's places behind it if that is not `most`.
-    pub fn begin(calls: Vec<Call>, line: &str, most: usize) -> Option<Script>
-        ensures { Begun calls result }
-    {
+    fn read(line: &str, most: usize) -> Option<Heading> {
         let mut words = line.split_whitespace();
         if words.next()? != "match" {
             return None;
         }
-        let format = words.next()?.parse::<Format>().ok()?;
-        let number = words.next()?.parse::<u16>().ok()?;
-        let opener = side_word(words.next()?)?;
-        let places = match words.next() {
-            Some(word) => word.parse::<usize>().ok()?,
-            None => most,
-        };
+        Some(Heading {
+            format: words.next()?.parse::<Format>().ok()?,
+            number: words.next()?.parse::<u16>().ok()?,
+            opener: words.next()?.parse::<Side>().ok()?,
+            places: match words.next() {
+                Some(word) => word.parse::<usize>().ok()?,
+                None => most,
+            },
+        })
+    }
+}
+
+impl Script {
+    // The script that begins with a line, as yet without calls.
+    pub fn begin(calls: Vec<Call>, line: &str, most: usize) -> Option<Script>
+        ensures { Begun calls result }
+    {
         Some(Script {
-            format,
-            number,
-            opener,
-            places,
+            heading: Heading::read(line, most)?,
             calls,
-            rally: 0,
-            settled: true,
+            last: LastRally::Settled(0),
         })
     }
 
@@ -65,14 +80,13 @@ impl Script {
         let mut words = line.split_whitespace();
         match words.next()? {
             "rally" => {
-                if self.settled {
-                    self.rally = self.rally.checked_add(1)?;
-                    self.settled = false;
+                if let LastRally::Settled(number) = self.last {
+                    self.last = LastRally::Open(number.checked_add(1)?);
                 }
                 Some(Call::Rally)
             }
             "point" => {
-                let side = side_word(words.next()?)?;
+                let side = words.next()?.parse::<Side>().ok()?;
                 Some(Call::Point(side, self.rally_meant(words.next(), words.next())?))
             }
             "let" => Some(Call::Let(self.rally_meant(words.next(), words.next())?)),
@@ -94,10 +108,11 @@ impl Script {
                 number: second?.parse::<u16>().ok()?,
             });
         }
-        self.settled = true;
+        let number = self.last.number();
+        self.last = LastRally::Settled(number);
         Some(RallyNumbers {
-            match_number: self.number,
-            number: self.rally,
+            match_number: self.heading.number,
+            number,
         })
     }
 }

@@ -13,6 +13,7 @@ use contest::side::Side;
 use formats::format::Format;
 use formats::piles::{badminton, game, sideout, table5, tennis3, tennis5, tennismt, volleyball};
 use std::alloc::{AllocError, Global};
+use std::fmt::Write;
 
 // A line of the table.
 #[derive(Drop)]
@@ -22,36 +23,12 @@ struct Line {
     points: Vec<Side>,
 }
 
-fn side_of(letter: char) -> Option<Side> {
-    match letter {
-        'A' => Some(Side::A),
-        'B' => Some(Side::B),
-        _ => None,
-    }
-}
-
-fn letter(side: Side) -> char {
-    match side {
-        Side::A => 'A',
-        Side::B => 'B',
-    }
-}
-
-fn side_word(text: &str) -> Option<Side> {
-    let mut letters = text.chars();
-    match (letters.next(), letters.next()) {
-        (Some(first), None) => side_of(first),
-        _ => None,
-    }
-}
-
 fn points_of(heap: Global, text: &str) -> anyhow::Result<Vec<Side>> {
-    let mut points = Vec::new(heap);
-    for c in text.chars() {
-        let side = side_of(c).context("a point is neither A nor B")?;
-        points.push(side)?;
-    }
-    Ok(points)
+    text.bytes()
+        .map(|letter| Side::try_from(letter)
+            .ok()
+            .context("a point is neither A nor B"))
+        .try_collect(heap)
 }
 
 fn parse_line(heap: Global, text: &str) -> anyhow::Result<Line> {
@@ -59,7 +36,10 @@ fn parse_line(heap: Global, text: &str) -> anyhow::Result<Line> {
     let (opener, points) = rest.split_once(' ').context("a line has no points")?;
     Ok(Line {
         format: name.parse::<Format>()?,
-        opener: side_word(opener).context("an opener is neither A nor B")?,
+        opener: opener
+            .parse::<Side>()
+            .ok()
+            .context("an opener is neither A nor B")?,
         points: points_of(heap, points)?,
     })
 }
@@ -72,7 +52,7 @@ fn servers<C: Contest>(heap: Global, pile: &mut C, points: &[Side]) -> Result<St
         if pile.point(*side).is_err() {
             break;
         }
-        servers.push(letter(server))?;
+        write!(servers, "{server}")?;
     }
     Ok(servers)
 }
@@ -83,12 +63,9 @@ fn levels<C: Contest>(heap: Global, pile: &C) -> Result<String, AllocError> {
         let Some(level) = pile.level(depth) else {
             break;
         };
-        let a = level.a;
-        let b = level.b;
-        text.push_str(format!(in heap; " {a}-{b}")?.as_str())?;
+        write!(text, " {}-{}", level.a, level.b)?;
         if let Some(winner) = level.winner {
-            text.push('/')?;
-            text.push(letter(winner))?;
+            write!(text, "/{winner}")?;
         }
     }
     Ok(text)
@@ -97,15 +74,11 @@ fn levels<C: Contest>(heap: Global, pile: &C) -> Result<String, AllocError> {
 fn replay<C: Contest + Drop>(rt: &HostRuntime, mut pile: C, line: &Line) -> anyhow::Result<()> {
     pile.open(line.opener);
     let servers = servers(rt.alloc(), &mut pile, &line.points)?;
-    let name = line.format.name();
-    let opener = letter(line.opener);
     let taken = servers.len();
+    print!(rt; "{} {} taken {taken} winner ", line.format, line.opener)?;
     match pile.winner() {
-        Some(side) => {
-            let winner = letter(side);
-            println!(rt; "{name} {opener} taken {taken} winner {winner}")?;
-        }
-        None => println!(rt; "{name} {opener} taken {taken} winner nobody")?,
+        Some(side) => println!(rt; "{side}")?,
+        None => println!(rt; "nobody")?,
     }
     println!(rt; "servers {servers}")?;
     let levels = levels(rt.alloc(), &pile)?;
@@ -113,6 +86,7 @@ fn replay<C: Contest + Drop>(rt: &HostRuntime, mut pile: C, line: &Line) -> anyh
     Ok(())
 }
 
+// The piles have a type for each format, and no closure is generic: so a format is matched where its pile is used.
 fn replay_line(rt: &HostRuntime, line: &Line) -> anyhow::Result<()> {
     match line.format {
         Format::Game => replay(rt, game(), line),

@@ -1,6 +1,0 @@
--- The pile is the table's.
-use Rattle.format_matches.proofs.Formats.{in_format}
-use Rattle.format_matches.proofs.play_game.Goals as goal
-
-pub returns : goal.returns
-returns c = in_format c.game.ensures.rules c.play.ensures
