@@ -44,6 +44,7 @@ enum Status {
 }
 
 // The columns of the 22 for the title that "match", the blanks and the match's number leave for the format's name.
+#[tactic(auto, using(crate::proofs::Rooms::room_of_power))]
 fn name_room(number: u16) -> usize
     ensures { result ≡ name_room number }
 {
