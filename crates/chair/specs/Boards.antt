@@ -8,7 +8,7 @@ use Rattle.contest.specs.declared.side.Side.{Side}
 use Rattle.formats.specs.Formats.{name_of}
 use Rattle.formats.specs.declared.format.Format.{Format}
 use Rattle.umpire.specs.Faults.{call_fault_number}
-use Rattle.umpire.specs.States.{rules_of}
+use Rattle.umpire.specs.States.{totals_of, rules_of}
 use Rattle.umpire.specs.declared.matches.Match.{Match}
 use Rattle.chair.specs.Texts.{label, reason_written}
 use Rattle.chair.specs.declared.board.Status.{Status}
@@ -82,13 +82,18 @@ title_written n f = codes "match " ++ (decimal n ++ (codes " " ++ (at_left (name
 abbrev pub levels_of : {C : Type 0} {h : Shape} → (C → Pile h) → (C → StandingOf h) → Match C → ℕ → Option Level
 levels_of pile standing m d = (rules_of pile m).play.level (standing m.pile) d
 
+-- how it stands
+abbrev pub status_in : {C : Type 0} {h : Shape} → (C → Pile h) → (C → StandingOf h) → Match C → Status
+status_in pile standing m =
+    let play = (rules_of pile m).play in
+    let at = standing m.pile in
+    status_of (play.winner at) (play.server at) (totals_of m).in_play
+
 -- the board: the title, the levels from the outside in, and how the match stands
 abbrev pub board_written : {C : Type 0} {h : Shape} → (C → Pile h) → (C → StandingOf h) → Start → Match C → List ℕ
 board_written pile standing start m =
-    let play = (rules_of pile m).play in
-    let at = standing m.pile in
     title_written start.number start.format
-    ++ (lines_written start.format (levels_of pile standing m) 16 ++ status_written (status_of (play.winner at) (play.server at) m.in_play))
+    ++ (lines_written start.format (levels_of pile standing m) 16 ++ status_written (status_in pile standing m))
 
 -- what is said under the score of what a command came to: why it was refused
 abbrev pub note_of : Reply → Option Note

@@ -1,8 +1,7 @@
 ghost use Rattle.std.specs.Prelude.{◌≡◌, ◌+◌, ◌<◌, Some};
 ghost use Rattle.std.specs.Fmt.{WritesOnOk};
 ghost use Rattle.std.specs.Option.{option_map};
-ghost use Rattle.umpire.specs.States.{rules_of};
-ghost use Rattle.chair.specs.Boards.{level_written, line_written, lines_written, status_written, status_of, levels_of, name_room, title_written, board_written};
+ghost use Rattle.chair.specs.Boards.{level_written, line_written, lines_written, status_written, levels_of, status_in, name_room, title_written, board_written};
 
 use crate::start::Start;
 use crate::text::level_label;
@@ -116,8 +115,9 @@ impl<'a, C: Contest> Board<'a, C> {
         Ok(())
     }
 
+    // How the match stands.
     fn status(&self) -> Status
-        ensures { result ≡ status_of ((rules_of C.Contest.pile self.now.ongoing.now).play.winner (C.Contest.standing self.now.ongoing.now.pile)) ((rules_of C.Contest.pile self.now.ongoing.now).play.server (C.Contest.standing self.now.ongoing.now.pile)) self.now.ongoing.now.in_play }
+        ensures { result ≡ status_in C.Contest.pile C.Contest.standing self.now.ongoing.now }
     {
         match self.ongoing.winner() {
             Some(side) => Status::WonBy(side),
