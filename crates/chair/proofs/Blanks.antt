@@ -1,14 +1,7 @@
--- Blanks before and behind a line.
+-- Blanks behind a line.
 use Rattle.std.proofs.Common.{◌≡◌, ℕ, ◌+◌, ◌-◌, ◌<◌, ◌≤◌, true, false, cond, List, [], ◌∷◌, ◌++◌, length, get_or, take, refl, sym, ap, ◌∙◌, arith}
 use Rattle.std.proofs.lemmas.List.{take_more, take_all}
-use Rattle.chair.specs.Commands.{is_blank, unindented, joined_to, unpadded}
-
--- a blank in front is passed over, and any other byte begins the line
-pub front_blank : (b : ℕ) (bs : List ℕ) → is_blank b ≡ true → unindented (b ∷ bs) ≡ unindented bs
-front_blank b bs e = ap (λ t. cond t (unindented bs) (b ∷ bs)) e
-
-pub front_dark : (b : ℕ) (bs : List ℕ) → is_blank b ≡ false → unindented (b ∷ bs) ≡ b ∷ bs
-front_dark b bs e = ap (λ t. cond t (unindented bs) (b ∷ bs)) e
+use Rattle.chair.specs.Commands.{is_blank, joined_to, unpadded}
 
 -- a blank at the end is left out, and any other byte ends the line
 pub end_blank : (bs : List ℕ) (b : ℕ) → is_blank b ≡ true → unpadded (bs ++ (b ∷ [])) ≡ unpadded bs

@@ -1,3 +1,4 @@
 mod Growing
 mod Blanks
+mod Rooms
 mod Words

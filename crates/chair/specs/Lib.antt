@@ -2,4 +2,5 @@ pub mod Boards
 pub mod Commands
 pub mod Ready
 pub mod Sessions
+pub mod Starts
 pub mod Texts

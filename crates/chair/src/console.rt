@@ -22,6 +22,7 @@ pub struct Console<'rt, 's, 'a, 'b, C> {
 }
 
 impl<'rt, 's, 'a, 'b, C: Contest> Console<'rt, 's, 'a, 'b, C> {
+    // The console of a session that was just opened.
     pub fn new(
         rt: &'rt HostRuntime,
         start: Start,

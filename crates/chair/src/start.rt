@@ -1,7 +1,6 @@
 // What the arguments say.
-ghost use Rattle.std.specs.Prelude.{◌≡◌, [], ◌∷◌, IfSome};
-ghost use Rattle.contest.specs.Sides.{letter};
-ghost use Rattle.formats.specs.Formats.{name_of};
+ghost use Rattle.std.specs.Prelude.{MatchOption};
+ghost use Rattle.chair.specs.Starts.{Names};
 
 use contest::side::Side;
 use formats::format::Format;
@@ -16,7 +15,7 @@ pub struct Start {
 
 // The match of three words, if they name one.
 pub fn start_of(format: &str, number: &str, opener: &str) -> Option<Start>
-    ensures { IfSome result (λ start. (name_of start.format ≡ format.now) × (letter start.opener ∷ [] ≡ opener.now)) }
+    ensures { MatchOption result ((start : Start) → Names format.now number.now opener.now start → ⊥) (λ start. Names format.now number.now opener.now start) }
 {
     Some(Start {
         format: format.parse().ok()?,

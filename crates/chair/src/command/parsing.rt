@@ -27,6 +27,7 @@ fn skip_blanks(mut line: &[u8]) -> &[u8]
 }
 
 // The line without the blanks behind its last word.
+#[tactic(auto, using(crate::proofs::Blanks::end_more, crate::proofs::Blanks::end_found))]
 fn cut_blanks(mut line: &[u8]) -> &[u8]
     ensures { result.now ≡ unpadded line.entry.now }
 {
