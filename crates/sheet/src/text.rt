@@ -20,10 +20,10 @@ use rally_log::entry::Header;
 
 // What the first line of a sheet says.
 #[derive(Clone, Copy)]
-pub(crate) struct Heading {
-    pub(crate) number: u16,
-    pub(crate) format: Format,
-    pub(crate) opener: Side,
+pub struct Heading {
+    pub number: u16,
+    pub format: Format,
+    pub opener: Side,
 }
 
 impl TryFrom<Header> for Heading {
