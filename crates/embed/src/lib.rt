@@ -54,8 +54,7 @@ fn is_short(res: Result<Scored, LogFault>) -> bool
         Err(LogFault::Reading(ReadFault {
             check: Check::Room,
             ..
-        }))
-            | Err(LogFault::Scoring(ScoreFault::NoPlace(_)))
+        })) | Err(LogFault::Scoring(ScoreFault::NoPlace(_)))
     )
 }
 
