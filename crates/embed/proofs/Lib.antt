@@ -1,4 +1,3 @@
 pub mod Closings
-pub mod Formats
 pub mod Readings
 pub mod Places

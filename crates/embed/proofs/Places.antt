@@ -7,6 +7,7 @@ use Rattle.rally_log.specs.declared.entry.Entry.{Entry}
 use Rattle.rally_log.specs.declared.entry.Entry.TheVariants.{Let}
 use Rattle.rally_log.proofs.Unique.{reads_only}
 use Rattle.roll.specs.Rolls.{most}
+use Rattle.sheet.proofs.OnePile.{one_pile}
 use Rattle.sheet.specs.Scores.{ScoresIn}
 use Rattle.sheet.specs.Sheets.{SheetOf, ReadAndScored}
 use Rattle.sheet.specs.declared.closing.Closing.{Closing}
@@ -16,7 +17,6 @@ use Rattle.sheet.specs.declared.fault.ScoreFault.{ScoreFault}
 use Rattle.sheet.specs.declared.score.Scored.{Scored}
 use Rattle.embed.specs.Answers.{short_of_places, ScoredWith}
 use Rattle.embed.proofs.Closings.{short, with_more_closings}
-use Rattle.embed.proofs.Formats.{one_pile}
 use Rattle.embed.proofs.Readings.{with_more_entries}
 
 module _ (bytes : List ℕ) (entries more_entries : List Entry) (closings more_closings : List Closing) (sheet : List ℕ) (entries_after : List Entry) (closings_after : List Closing) (after : List ℕ)

@@ -27,8 +27,8 @@ pub struct SheetAnswer {
 impl From<Result<Scored, LogFault>> for SheetAnswer {
     ghost from_gives = { λ result answer. answer ≡ told result };
 
-    fn from(result: Result<Scored, LogFault>) -> SheetAnswer {
-        match result {
+    fn from(res: Result<Scored, LogFault>) -> SheetAnswer {
+        match res {
             Ok(scored) => SheetAnswer {
                 length: scored.length,
                 place: 0,
@@ -54,8 +54,7 @@ fn is_short(res: Result<Scored, LogFault>) -> bool
         Err(LogFault::Reading(ReadFault {
             check: Check::Room,
             ..
-        }))
-            | Err(LogFault::Scoring(ScoreFault::NoPlace(_)))
+        })) | Err(LogFault::Scoring(ScoreFault::NoPlace(_)))
     )
 }
 
@@ -105,5 +104,9 @@ pub extern "C" fn cibraduc_sheet(log: &[u8], sheet: &mut [u8]) -> SheetAnswer
         257..=4096 => answer_with::<4096, 128>(log, sheet),
         _ => None,
     };
-    first.unwrap_or_else(|| SheetAnswer::from(score_with::<30_000, 4_000>(log, sheet)))
+    // a match and no `unwrap_or_else`, of whose closure no contract says what it wrote to the sheet
+    match first {
+        Some(answer) => answer,
+        None => SheetAnswer::from(score_with::<30_000, 4_000>(log, sheet)),
+    }
 }

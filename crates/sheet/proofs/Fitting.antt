@@ -5,7 +5,6 @@ use Rattle.contest.specs.Piles.{Shape, Pile}
 use Rattle.contest.specs.declared.side.Side.{Side}
 use Rattle.formats.specs.Table.{InFormat}
 use Rattle.formats.specs.declared.format.Format.{Format}
-use Rattle.formats.specs.declared.format.Format.TheVariants.{Game, Tennis3, Tennis5, TennisMt, Badminton, Volleyball, Table5, SideOut}
 use Rattle.rally_log.specs.declared.entry.Entry.{Entry}
 use Rattle.roll.specs.Rolls.{most}
 use Rattle.sheet.specs.Closings.{Ending, through, after_end, no_place}
@@ -15,6 +14,7 @@ use Rattle.sheet.specs.declared.fault.ScoreFault.{ScoreFault}
 use Rattle.sheet.specs.declared.fault.ScoreFault.TheVariants.{Space}
 use Rattle.sheet.specs.declared.score.Scored.{Scored}
 use Rattle.sheet.specs.declared.text.Heading.{Heading}
+use Rattle.sheet.proofs.OnePile.{one_pile}
 
 written_fits : (text : List ℕ) (w : Option Side) (space : ℕ) (s : Scored) → Ok s ≡ written_answer text w space → s.length ≤ space
 written_fits text w space s e = go (leb (length text) space) refl e
@@ -34,11 +34,4 @@ module _ (heading : Heading) (es : List Entry) (places : List Closing) (bytes : 
   scores_fit p (Err e) k = tt
 
   pub fits : (r : Result Scored ScoreFault) (f : Format) → InFormat f (λ h p. ScoresIn p heading es places bytes r held left after) → IfOk r (λ s. s.length ≤ length bytes)
-  fits r Game k = scores_fit _ r k
-  fits r Tennis3 k = scores_fit _ r k
-  fits r Tennis5 k = scores_fit _ r k
-  fits r TennisMt k = scores_fit _ r k
-  fits r Badminton k = scores_fit _ r k
-  fits r Volleyball k = scores_fit _ r k
-  fits r Table5 k = scores_fit _ r k
-  fits r SideOut k = scores_fit _ r k
+  fits r f k = let one = one_pile f (λ h p. ScoresIn p heading es places bytes r held left after) k in scores_fit one.pile r one.holds

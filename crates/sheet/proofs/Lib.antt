@@ -4,6 +4,7 @@ pub mod Penned
 pub mod Putting
 pub mod Through
 pub mod Taking
+pub mod OnePile
 pub mod Fitting
 pub mod Depths
 pub mod Promised

@@ -6,11 +6,11 @@ use Rattle.formats.specs.Table.{InFormat}
 use Rattle.formats.specs.declared.format.Format.{Format}
 use Rattle.rally_log.specs.declared.entry.Entry.{Entry}
 use Rattle.rally_log.specs.declared.entry.Header.{Header}
-use Rattle.roll.specs.Rolls.{entries, spare, most}
+use Rattle.roll.specs.Rolls.{entries, most}
 use Rattle.roll.specs.declared.Roll.{Roll}
 use Rattle.sheet.specs.Closings.{Ending, through, after_end, no_place, ended}
 use Rattle.sheet.specs.Headings.{heading_in, heading_of}
-use Rattle.sheet.specs.Scores.{Written, written_answer, ending_in, answer_to, sheet_text, bytes_after, ScoresIn, ScoresAs}
+use Rattle.sheet.specs.Scores.{Written, written_answer, ending_in, answer_to, sheet_text, bytes_after, ScoresOn, ScoresAs, Scores}
 use Rattle.sheet.specs.Scoring.{lent, EntriesScored}
 use Rattle.sheet.specs.Text.{text_of}
 use Rattle.sheet.specs.declared.closing.Closing.{Closing}
@@ -29,7 +29,7 @@ module _ {h : Shape} (p : Pile h) (heading : Heading) (es : List Entry) where
   pub written_in : {r q : Roll Closing} {t : StandingOf h} {bytes : List ℕ} {e : Result Scored ScoreFault} {after : List ℕ} → Sound p
       → EntriesScored (contest_of p).play ((contest_of p).opening heading.opener) r es (Ok tt) t q
       → Written (text_of (contest_of p) heading es (entries q) t) ((contest_of p).play.winner t) bytes e after
-      → ScoresIn p heading es (lent r) bytes e (entries q) (spare q) after
+      → ScoresOn p heading es r bytes e q after
   written_in {r} {q} {t} {bytes} {e} sound k w =
       let text : text_of (contest_of p) heading es (entries q) t ≡ sheet_text p heading es = ap₂ (text_of (contest_of p) heading es) (k.complete refl) (k.stands refl) in
       let winner = ap (contest_of p).play.winner (k.stands refl) in
@@ -37,11 +37,14 @@ module _ {h : Shape} (p : Pile h) (heading : Heading) (es : List Entry) where
       let answer : e ≡ answer_to p heading es (length bytes) (ending_in p heading es (most [] (lent r))) =
       w.answer ∙ ap₂ (λ xs v. written_answer xs v (length bytes)) text winner ∙ ap (answer_to p heading es (length bytes)) (sym end) in
       record {
-        answer = answer;
-        held_is = k.held_is;
-        left_is = k.left_is;
-        sheet_is = w.bytes_are ∙ ap (λ xs. bytes_after e xs bytes) text;
-        cut = took_all p sound heading es (length bytes) (most [] (lent r)) e answer;
+        scores = record {
+          answer = answer;
+          held_is = k.held_is;
+          left_is = k.left_is;
+          sheet_is = w.bytes_are ∙ ap (λ xs. bytes_after e xs bytes) text;
+          cut = took_all p sound heading es (length bytes) (most [] (lent r)) e answer;
+        };
+        same = k.same;
       }
 
 -- the only reason why a header has no heading
@@ -49,14 +52,13 @@ only_code : (h : Header) (o : Option Format) {f : ScoreFault} → heading_in h o
 only_code h None e = cc
 only_code h (Some g) e = cc
 
-pub no_heading : {h : Shape} (p : Pile h) (header : Header) (es : List Entry) (held left : List Closing) (bytes : List ℕ) {f : ScoreFault} → heading_of header ≡ Err f
-    → ScoresAs p (heading_of header) es held left bytes (Err f) held left bytes
-no_heading p header es held left bytes {f} e =
-    subst (λ r. ScoresAs p r es held left bytes (Err f) held left bytes) (sym e) (record { answer = ap Err (only_code header (format_of header.code) e); held_is = refl; left_is = refl; sheet_is = refl })
+pub no_heading : {h : Shape} (p : Pile h) (header : Header) (es : List Entry) (r : Roll Closing) (bytes : List ℕ) {f : ScoreFault} → heading_of header ≡ Err f → Scores p header es r bytes (Err f) r bytes
+no_heading p header es r bytes {f} e =
+    subst (λ v. ScoresAs p v es r bytes (Err f) r bytes) (sym e) (record { answer = ap Err (only_code header (format_of header.code) e); roll_is = refl; sheet_is = refl })
 
 pub in_format : (P : (h : Shape) → Pile h → Type 0) {f g : Format} → f ≡ g → InFormat g P → InFormat f P
 in_format P e k = subst (λ f. InFormat f P) (sym e) k
 
-pub with_pile : {h : Shape} {p q : Pile h} {heading : Heading} {es : List Entry} {places : List Closing} {bytes : List ℕ} {r : Result Scored ScoreFault} {held left : List Closing} {after : List ℕ}
-    → p ≡ q → ScoresIn p heading es places bytes r held left after → ScoresIn q heading es places bytes r held left after
-with_pile {heading} {es} {places} {bytes} {r} {held} {left} {after} e k = subst (λ v. ScoresIn v heading es places bytes r held left after) e k
+pub with_pile : {h : Shape} {p q : Pile h} {heading : Heading} {es : List Entry} {r : Roll Closing} {bytes : List ℕ} {e : Result Scored ScoreFault} {u : Roll Closing} {after : List ℕ}
+    → p ≡ q → ScoresOn p heading es r bytes e u after → ScoresOn q heading es r bytes e u after
+with_pile {heading} {es} {r} {bytes} {e} {u} {after} i k = subst (λ v. ScoresOn v heading es r bytes e u after) i k

@@ -8,6 +8,6 @@ mod scoring;
 mod sheet;
 pub mod sheets;
 mod sink;
-mod text;
+pub mod text;
 mod totals;
 mod writing;

@@ -1,7 +1,5 @@
-ghost use Rattle.std.specs.Prelude.{◌≡◌};
-ghost use Rattle.roll.specs.Rolls.{entries, spare};
-ghost use Rattle.sheet.specs.Scores.{Scores, ScoresIn};
-ghost use Rattle.sheet.specs.Scoring.{lent};
+ghost use Rattle.roll.specs.Rolls.{entries};
+ghost use Rattle.sheet.specs.Scores.{Scores, ScoresOn};
 
 use crate::closing::Closing;
 use crate::fault::ScoreFault;
@@ -20,7 +18,7 @@ pub struct Scored {
     pub winner: Option<Side>,
 }
 
-// Scores a log in a format. What is promised of it speaks of the places of the roll and not of the roll, since they outlast it.
+// Scores a log in a format.
 pub(crate) fn score_in<C: Contest + Drop>(
     mut pile: C,
     heading: Heading,
@@ -28,18 +26,17 @@ pub(crate) fn score_in<C: Contest + Drop>(
     closings: &mut Roll<Closing>,
     sheet: &mut [u8],
 ) -> Result<Scored, ScoreFault>
-    ensures scores { ScoresIn (C.Contest.pile pile) heading (entries log.now) (lent closings.old) sheet.old result (entries closings.new) (spare closings.new) sheet.new }
-    ensures same { closings.new.places.ghost_name ≡ closings.old.places.ghost_name }
+    ensures { ScoresOn (C.Contest.pile pile) heading (entries log.now) closings.old sheet.old result closings.new sheet.new }
 {
     pile.open(heading.opener);
     score_entries(&mut pile, log.as_slice(), closings)?;
-    let scored = Sheet {
+    let score_sheet = Sheet {
         heading,
         pile: &pile,
         log: log.as_slice(),
         closings: closings.as_slice(),
     };
-    scored.write_fitting(sheet)
+    score_sheet.write_fitting(sheet)
 }
 
 // Scores a log with a pile, which is used up: puts the closings on a roll and writes the sheet over the first bytes.
@@ -50,8 +47,7 @@ pub fn score<C: Contest + Drop>(
     closings: &mut Roll<Closing>,
     sheet: &mut [u8],
 ) -> Result<Scored, ScoreFault>
-    ensures scores { Scores (C.Contest.pile pile) header (entries log.now) (entries closings.old) (spare closings.old) sheet.old result (entries closings.new) (spare closings.new) sheet.new }
-    ensures same { closings.new.places.ghost_name ≡ closings.old.places.ghost_name }
+    ensures { Scores (C.Contest.pile pile) header (entries log.now) closings.old sheet.old result closings.new sheet.new }
 {
     score_in(pile, Heading::try_from(header)?, log, closings, sheet)
 }

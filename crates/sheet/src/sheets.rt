@@ -1,8 +1,7 @@
-ghost use Rattle.std.specs.Prelude.{◌≡◌, ◌≤◌, length, IfOk};
+ghost use Rattle.std.specs.Prelude.{◌≤◌, length, IfOk};
 ghost use Rattle.formats.specs.Table.{InFormat};
-ghost use Rattle.roll.specs.Rolls.{entries, spare};
-ghost use Rattle.sheet.specs.Scores.{ScoresIn};
-ghost use Rattle.sheet.specs.Scoring.{lent};
+ghost use Rattle.roll.specs.Rolls.{entries};
+ghost use Rattle.sheet.specs.Scores.{ScoresOn};
 ghost use Rattle.sheet.specs.Sheets.{ScoredSo, SheetOf};
 
 use crate::closing::Closing;
@@ -22,8 +21,7 @@ fn score_format(
     closings: &mut Roll<Closing>,
     sheet: &mut [u8],
 ) -> Result<Scored, ScoreFault>
-    ensures scored { InFormat heading.format (λ h p. ScoresIn p heading (entries log.now) (lent closings.old) sheet.old result (entries closings.new) (spare closings.new) sheet.new) }
-    ensures same { closings.new.places.ghost_name ≡ closings.old.places.ghost_name }
+    ensures { InFormat heading.format (λ h p. ScoresOn p heading (entries log.now) closings.old sheet.old result closings.new sheet.new) }
 {
     match heading.format {
         Format::Game => score_in(game(), heading, log, closings, sheet),

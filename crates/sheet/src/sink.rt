@@ -24,7 +24,8 @@ impl Sink for Measure {
     }
 }
 
-// A sink that writes the bytes over those of a slice, from its first on, as far as they fit.
+// A sink that writes the bytes over those of a slice, from its first on, as far as they fit. It counts them: a slice that lost each
+// byte by `split_first_mut` would be another reference each time, and no clause would say what the lender's bytes then hold.
 #[derive(Drop)]
 pub(crate) struct Pen<'a> {
     pub(crate) bytes: &'a mut [u8],

@@ -20,10 +20,10 @@ use rally_log::entry::Header;
 
 // What the first line of a sheet says.
 #[derive(Clone, Copy)]
-pub(crate) struct Heading {
-    pub(crate) number: u16,
-    pub(crate) format: Format,
-    pub(crate) opener: Side,
+pub struct Heading {
+    pub number: u16,
+    pub format: Format,
+    pub opener: Side,
 }
 
 impl TryFrom<Header> for Heading {
@@ -41,8 +41,8 @@ impl TryFrom<Header> for Heading {
     }
 }
 
-// The functions that follow write by the sink and not by `write!`, whose contract says what it wrote if it answers `Ok`, but not that
-// it does: a sheet that fits would then be refused.
+// The functions that follow put bytes into a sink, which takes each. `write!` might answer `Err`: no contract of `fmt` says when it
+// does not, and a sheet that fits is never refused.
 fn put_bytes<S: Sink>(sink: &mut S, bytes: &[u8])
     ensures { Puts S.Sink.takes sink.old bytes.now sink.new }
 {
@@ -125,11 +125,9 @@ fn put_closings<S: Sink>(sink: &mut S, closings: &[Closing])
 fn put_open_level<S: Sink>(sink: &mut S, level: Option<Level>)
     ensures { Puts S.Sink.takes sink.old (spaced (open_field level)) sink.new }
 {
-    if let Some(level) = level {
-        if level.winner.is_none() {
-            sink.put(b' ');
-            put_counts(sink, level.a, level.b);
-        }
+    if let Some(Level { a, b, winner: None }) = level {
+        sink.put(b' ');
+        put_counts(sink, a, b);
     }
 }
 

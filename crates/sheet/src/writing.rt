@@ -5,8 +5,8 @@ ghost use Rattle.sheet.specs.Text.{text_of_sheet, winner_of_sheet};
 
 use crate::fault::ScoreFault;
 use crate::score::Scored;
-use crate::sink::{Measure, Pen};
 use crate::sheet::Sheet;
+use crate::sink::{Measure, Pen};
 use contest::contest::Contest;
 
 impl<C: Contest> Sheet<'_, C> {

@@ -9,7 +9,7 @@ returns-else-is_short g c =
     record {
       result = first.result;
       scored = with_many g.row.ENTRIES g.row.CLOSINGS c.args.log.now c.args.sheet.now first.new.sheet first.result c.requires.0 c.requires.1 (sym c.if-is_short.ensures) first.ensures;
-      answer_is = c.tell.ensures;
+      answer_is = c.from.ensures;
     }
 
 pub returns-then-is_short : goal.returns-then-is_short

@@ -6,8 +6,8 @@ use Rattle.sheet.specs.Text.{text_of}
 use Rattle.sheet.proofs.Promised.{written_in}
 use Rattle.sheet.proofs.score.score_in.Goals as goal
 
-pub returns-clause-scores : goal.returns-clause-scores
-returns-clause-scores g c =
+pub returns : goal.returns
+returns g c =
     let h = c.args.heading in
     let kept = c.score_entries.ensures.kept ∙ c.open.ensures.kept in
     let scored = rw (c.open.ensures.kept, c.open.ensures.opened, c.as_slice.ensures) at c.in_ok-score_entries.ensures.scored in

@@ -1,23 +1,25 @@
 use Rattle.std.proofs.Common.{◌≡◌, ◌++◌, sym, ◌∙◌, subst, ap₂, rules}
 use Rattle.std.proofs.lemmas.List.{take-append-drop}
-use Rattle.formats.specs.Table.{InFormat}
 use Rattle.roll.specs.Rolls.{entries, spare}
-use Rattle.sheet.specs.Scores.{ScoresIn}
+use Rattle.sheet.specs.Scores.{ScoresIn, ScoresOn}
+use Rattle.sheet.proofs.OnePile.{one_pile}
 use Rattle.sheet.proofs.sheets.score_read.Goals as goal
 
 pub returns : goal.returns
 returns c =
     let h = c.in_ok-try_from.field-0 in
-    let roll = c.score_format.new.closings in
+    let es = entries c.args.log.now in
+    let q = c.score_format.new.closings in
     let new = c.new-roll.ensures in
-    let same_name = sym (c.score_format.ensures.same ∙ new.same) in
-    let whole : roll.places.now ≡ entries roll ++ spare roll = sym (take-append-drop roll.count roll.places.now) in
+    let one = one_pile h.format (λ s p. ScoresOn p h es c.new-roll.result c.args.sheet.now c.score_format.result q c.score_format.new.sheet) c.score_format.ensures in
+    let same_name = sym (one.holds.same ∙ new.same) in
+    let whole : q.places.now ≡ entries q ++ spare q = sym (take-append-drop q.count q.places.now) in
     record {
       heading = h;
       named = sym c.in_ok-try_from.ensures;
-      held = entries roll;
-      left = spare roll;
+      held = entries q;
+      left = spare q;
       closings_are = search rules;
-      scored = subst (λ places. InFormat h.format (λ s p. ScoresIn p h (entries c.args.log.now) places c.args.sheet.now c.score_format.result (entries roll) (spare roll) c.score_format.new.sheet))
-          (ap₂ ◌++◌ new.entries new.spare) c.score_format.ensures.scored;
+      scored = one.back (λ s p. ScoresIn p h es c.args.closings.now c.args.sheet.now c.score_format.result (entries q) (spare q) c.score_format.new.sheet)
+          (subst (λ places. ScoresIn one.pile h es places c.args.sheet.now c.score_format.result (entries q) (spare q) c.score_format.new.sheet) (ap₂ ◌++◌ new.entries new.spare) one.holds.scores);
     }
