@@ -29,7 +29,7 @@ pub fn start_of(format: &str, number: &str, opener: &str) -> Option<Start>
     ensures { IfSome result (λ start. (name_of start.format ≡ format.now) × (side_written start.opener ≡ opener.now)) }
 {
     Some(Start {
-        format: Format::from_name(format)?,
+        format: format.parse::<Format>().ok()?,
         number: number.parse::<u16>().ok()?,
         opener: side_of(opener)?,
     })

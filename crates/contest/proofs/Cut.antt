@@ -1,9 +1,10 @@
 -- The points of a layer have exactly one cutting, and the layer stands as the cutting says.
 use Rattle.std.proofs.Common.{◌≡◌, List, [], ◌∷◌, ◌++◌, Some, None, Option, sym, refl, ap, ◌∙◌, subst, append_assoc, append-nil}
 use Rattle.contest.specs.Contests.{FairPlay, run, Taken, played}
-use Rattle.contest.specs.Goals.{Counts, Wins, none_yet, winner_by, tallied}
+use Rattle.contest.specs.Goals.{Wins, none_yet, winner_by, tallied}
 use Rattle.contest.specs.Layers.{Layer, Standing, layer, stands, next_opener, ready, recounted, reached, served}
 use Rattle.contest.specs.Cuttings.{Piece, Cutting, Start, first, begun, ended, next, Along, Played, joined, Cuts, won, stands_at, serves_at, level_of, Parted}
+use Rattle.contest.specs.declared.counts.Counts.{Counts}
 use Rattle.contest.specs.declared.side.Side.{Side}
 use Rattle.contest.specs.declared.side.Side.TheVariants.{A, B}
 use Rattle.contest.proofs.Runs.{Whole, Undecided, not_both, run_append, taken_front, taken_back, taken_push, last_point, whole_once, whole_not_begins}

@@ -3,8 +3,9 @@ use Rattle.std.proofs.Common.{◌≡◌, ℕ, zero, suc, Some, None, Option, sym
 use Rattle.contest.specs.Sides.{opposite, option_opposite, option_swapped}
 use Rattle.contest.specs.Contests.{FairPlay, FairOpening, Laws}
 use Rattle.contest.specs.Service.{Fair}
-use Rattle.contest.specs.Goals.{Counts, none_yet, swapped_counts}
+use Rattle.contest.specs.Goals.{none_yet, swapped_counts}
 use Rattle.contest.specs.Layers.{Layer, Standing, stands, layer, next_opener, ready, reached, recounted, level_at, served}
+use Rattle.contest.specs.declared.counts.Counts.{Counts}
 use Rattle.contest.specs.declared.side.Side.{Side}
 use Rattle.contest.specs.declared.side.Side.TheVariants.{A, B}
 use Rattle.contest.specs.declared.service.Situation.{Situation}
@@ -25,7 +26,7 @@ opposite_twice A = refl
 opposite_twice B = refl
 
 abbrev situation : Side → Counts → Side → Side → Side → Situation
-situation o n lo s w = record { opener = o; last_opener = lo; server = s; winner = w; a = n.a; b = n.b }
+situation o n lo s w = record { opener = o; last_opener = lo; server = s; winner = w; counts = n }
 
 module _ {S : Type 0} (l : Layer S) (fair : Fair l.service) (play : FairPlay l.below) (opens : FairOpens l) where
   next_opener_mirrored : (s : Standing S) (w : Side) → next_opener l ((layer l).play.mirror s) (opposite w) ≡ opposite (next_opener l s w)

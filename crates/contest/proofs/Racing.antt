@@ -1,9 +1,9 @@
 -- The laws of a race, from those of its service and of the contest below.
 use Rattle.contest.specs.Contests.{Contest, Laws}
 use Rattle.contest.specs.Service.{Rule, Fair}
-use Rattle.contest.specs.Goals.{Goal}
 use Rattle.contest.specs.Races.{race, over}
 use Rattle.contest.proofs.Layering.{FairOpens, layer_laws}
+use Rattle.contest.specs.declared.goal.Goal.{Goal}
 
 over_opens : {S : Type 0} (g : Goal) (r : Rule) (c : Contest S) → Laws c → FairOpens (over g r c)
 over_opens g r c h = record {

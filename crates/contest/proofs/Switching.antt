@@ -3,8 +3,8 @@ use Rattle.std.proofs.Common.{◌≡◌, ℕ, Bool, true, false, cond, ◌&&◌,
 use Rattle.contest.specs.Sides.{opposite, option_opposite, option_swapped}
 use Rattle.contest.specs.Contests.{Play, Contest, FairPlay, Laws, Taken}
 use Rattle.contest.specs.Service.{Rule, Fair}
-use Rattle.contest.specs.Goals.{Goal}
 use Rattle.contest.specs.Switches.{chosen, either_play, decisive, between, switch}
+use Rattle.contest.specs.declared.goal.Goal.{Goal}
 use Rattle.contest.specs.declared.side.Side.{Side}
 use Rattle.contest.proofs.Layering.{FairOpens, layer_laws}
 

@@ -2,7 +2,6 @@
 use Rattle.std.specs.Prelude.{◌≡◌, ◌⊎◌, Some, None, Ok, Err, Option, Result}
 use Rattle.contest.specs.Contests.{answered, unless_won}
 use Rattle.contest.specs.Service.{Rule}
-use Rattle.contest.specs.Tally.{goal_of, counts_of}
 use Rattle.contest.specs.Layers.{Layer, Standing, stands, ready, recounted}
 use Rattle.contest.specs.Switches.{chosen}
 use Rattle.contest.specs.Piles.{Shape, StandingOf, Pile, raced, switched, race_of, switch_of, contest_of}
@@ -15,18 +14,18 @@ use Rattle.contest.specs.declared.fault.RuleFault.{RuleFault}
 
 -- a race, given the pile of the contest below and the meaning of its service rule
 abbrev pub race_pile : {C P : Type 0} {h : Shape} → (C → Pile h) → (P → Rule) → Race C P → Pile (race_of h)
-race_pile pc rp s = raced (goal_of s.tally) (rp s.service) (pc s.below)
+race_pile pc rp s = raced s.tally.goal (rp s.service) (pc s.below)
 
 abbrev pub race_standing : {C P S : Type 0} → (C → S) → Race C P → Standing S
-race_standing sc s = stands s.opener (counts_of s.tally) (sc s.below)
+race_standing sc s = stands s.opener s.tally.counts (sc s.below)
 
 -- a switch, given the same of both contests below
 abbrev pub switch_pile : {C D P : Type 0} {h k : Shape} → (C → Pile h) → (D → Pile k) → (P → Rule) → Switch C D P → Pile (switch_of h k)
-switch_pile pc pd rp s = switched (goal_of s.tally) (rp s.service) s.threshold (pc s.ordinary) (pd s.deciding)
+switch_pile pc pd rp s = switched s.tally.goal (rp s.service) s.threshold (pc s.ordinary) (pd s.deciding)
 
 -- the contest below is the one that was opened last
 abbrev pub switch_standing : {C D P S T : Type 0} → (C → S) → (D → T) → Switch C D P → Standing (S ⊎ T)
-switch_standing sc sd s = stands s.opener (counts_of s.tally) (chosen s.decides (sc s.ordinary) (sd s.deciding))
+switch_standing sc sd s = stands s.opener s.tally.counts (chosen s.decides (sc s.ordinary) (sd s.deciding))
 
 -- s is the pile p, opened for A
 pub record Opened {R : Type 0} {h : Shape} (pile : R → Pile h) (standing : R → StandingOf h) (p : Pile h) (s : R) : Type 0 where

@@ -1,8 +1,9 @@
 -- The cutting: how a layer's points are parted into those of the contests below it, one after the other.
 use Rattle.std.specs.Prelude.{◌≡◌, ℕ, suc, ◌↔◌, List, [], ◌∷◌, ◌++◌, Some, None, Option}
 use Rattle.contest.specs.Contests.{Play, run, Taken, played}
-use Rattle.contest.specs.Goals.{Counts, Wins, none_yet, tallied}
+use Rattle.contest.specs.Goals.{Wins, none_yet, tallied}
 use Rattle.contest.specs.Layers.{Layer, Standing, layer, stands, next_opener}
+use Rattle.contest.specs.declared.counts.Counts.{Counts}
 use Rattle.contest.specs.declared.side.Side.{Side}
 use Rattle.contest.specs.declared.level.Level.{Level}
 

@@ -1,6 +1,6 @@
--- What is refused, and by which number.
-use Rattle.std.specs.Prelude.{ℕ, Bool, cond, not, ◌&&◌, ◌||◌, Some, None, Option, ◌==◌, nat_le, nat_lt}
-use Rattle.contest.specs.Goals.{Goal}
+-- What is refused, by which number, and in which words.
+use Rattle.std.specs.Prelude.{ℕ, Bool, cond, not, ◌&&◌, ◌||◌, List, codes, Some, None, Option, ◌==◌, nat_le, nat_lt}
+use Rattle.contest.specs.declared.goal.Goal.{Goal}
 use Rattle.contest.specs.declared.fault.ContestFault.{ContestFault}
 use Rattle.contest.specs.declared.fault.ContestFault.TheVariants.{Decided}
 use Rattle.contest.specs.declared.fault.RuleFault.{RuleFault}
@@ -14,6 +14,16 @@ rule_fault_number Target = 1
 rule_fault_number Lead = 2
 rule_fault_number Cap = 3
 rule_fault_number Threshold = 4
+
+-- the words of a refusal
+abbrev pub contest_fault_words : ContestFault → List ℕ
+contest_fault_words Decided = codes "the contest has a winner"
+
+abbrev pub rule_fault_words : RuleFault → List ℕ
+rule_fault_words Target = codes "the target is not allowed"
+rule_fault_words Lead = codes "the lead is not allowed"
+rule_fault_words Cap = codes "the cap is not allowed"
+rule_fault_words Threshold = codes "the threshold is not allowed"
 
 -- the target is from 1 to 9,999
 abbrev pub target_allowed : Goal → Bool

@@ -1,22 +1,15 @@
 -- The counts of a layer, and who has won by them under a target, a lead and a cap.
 use Rattle.std.specs.Prelude.{◌≡◌, ℕ, ◌+◌, ◌≤◌, Bool, cond, ◌&&◌, ◌||◌, ◌⊎◌, Some, None, Option, ◌==◌, nat_le, nat_lt}
+use Rattle.contest.specs.declared.counts.Counts.{Counts}
+use Rattle.contest.specs.declared.goal.Goal.{Goal}
 use Rattle.contest.specs.declared.side.Side.{Side}
 use Rattle.contest.specs.declared.side.Side.TheVariants.{A, B}
 
--- a race to a target by a lead, or to a cap whatever the lead
-pub record Goal : Type 0 where
-  pub target : ℕ
-  pub lead : ℕ
-  pub cap : ℕ
-
+-- the goal of three numbers: a target by a lead, or a cap whatever the lead
 abbrev pub goal : ℕ → ℕ → ℕ → Goal
 goal t l c = record { target = t; lead = l; cap = c }
 
--- how many contests below each side has won
-pub record Counts : Type 0 where
-  pub a : ℕ
-  pub b : ℕ
-
+-- how many contests below each side has won: at first none
 abbrev pub none_yet : Counts
 none_yet = record { a = 0; b = 0 }
 

@@ -5,8 +5,10 @@ use Rattle.std.proofs.lemmas.Bool.{and_parts, or_cases, leb-true, eqb-true}
 use Rattle.std.proofs.lemmas.Bool.Decides.{nat_tests}
 use Rattle.contest.specs.Sides.{opposite, option_opposite}
 use Rattle.contest.specs.Faults.{goal_fault, switch_fault, or_threshold, threshold_allowed}
-use Rattle.contest.specs.Goals.{Goal, Counts, Reaches, Wins, none_yet, reaches, winner_by, tallied, swapped_counts}
+use Rattle.contest.specs.Goals.{Reaches, Wins, none_yet, reaches, winner_by, tallied, swapped_counts}
 use Rattle.contest.specs.Layers.{recounted}
+use Rattle.contest.specs.declared.counts.Counts.{Counts}
+use Rattle.contest.specs.declared.goal.Goal.{Goal}
 use Rattle.contest.specs.declared.fault.RuleFault.{RuleFault}
 use Rattle.contest.specs.declared.side.Side.{Side}
 use Rattle.contest.specs.declared.side.Side.TheVariants.{A, B}

@@ -3,7 +3,9 @@ use Rattle.std.specs.Prelude.{ℕ, zero, suc, Some, None, Option}
 use Rattle.contest.specs.Sides.{opposite}
 use Rattle.contest.specs.Contests.{Play, Contest}
 use Rattle.contest.specs.Service.{Rule}
-use Rattle.contest.specs.Goals.{Goal, Counts, none_yet, tallied, swapped_counts, winner_by}
+use Rattle.contest.specs.Goals.{none_yet, tallied, swapped_counts, winner_by}
+use Rattle.contest.specs.declared.counts.Counts.{Counts}
+use Rattle.contest.specs.declared.goal.Goal.{Goal}
 use Rattle.contest.specs.declared.side.Side.{Side}
 use Rattle.contest.specs.declared.level.Level.{Level}
 
@@ -26,7 +28,7 @@ stands o n s = record { opener = o; counts = n; below = s }
 
 -- the side that the service rule names to open the next lower contest, once w has won the last
 abbrev pub next_opener : {S : Type 0} → Layer S → Standing S → Side → Side
-next_opener l s w = l.service (record { opener = s.opener; last_opener = l.below.opener s.below; server = l.below.server s.below; winner = w; a = s.counts.a; b = s.counts.b })
+next_opener l s w = l.service (record { opener = s.opener; last_opener = l.below.opener s.below; server = l.below.server s.below; winner = w; counts = s.counts })
 
 -- the contest below that takes the next point: the one that stands, or, where that has the winner w, one opened anew
 abbrev pub ready : {S : Type 0} → Layer S → Standing S → Option Side → S

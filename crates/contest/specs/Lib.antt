@@ -5,7 +5,6 @@ pub mod Rally
 pub mod Hand
 pub mod Service
 pub mod Goals
-pub mod Tally
 pub mod Faults
 pub mod Layers
 pub mod Races

@@ -2,12 +2,12 @@
 use Rattle.std.specs.Prelude.{◌≡◌, ℕ, cond, ◌⊎◌, List, None}
 use Rattle.contest.specs.Contests.{Contest, Laws}
 use Rattle.contest.specs.Service.{Rule, Fair}
-use Rattle.contest.specs.Goals.{Goal}
 use Rattle.contest.specs.Faults.{goal_fault, switch_fault}
 use Rattle.contest.specs.Layers.{Layer, Standing, layer}
 use Rattle.contest.specs.Races.{over}
 use Rattle.contest.specs.Switches.{between, decisive}
 use Rattle.contest.specs.Cuttings.{Parted}
+use Rattle.contest.specs.declared.goal.Goal.{Goal}
 use Rattle.contest.specs.declared.side.Side.{Side}
 
 -- what stands on what, down to bottom contests, each with a type of standings

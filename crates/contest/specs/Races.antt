@@ -1,8 +1,8 @@
 -- A race: a layer over one contest, opened anew each time.
 use Rattle.contest.specs.Contests.{Contest}
 use Rattle.contest.specs.Service.{Rule}
-use Rattle.contest.specs.Goals.{Goal}
 use Rattle.contest.specs.Layers.{Layer, Standing, layer}
+use Rattle.contest.specs.declared.goal.Goal.{Goal}
 
 -- what a race over a contest plays by
 abbrev pub over : {S : Type 0} → Goal → Rule → Contest S → Layer S

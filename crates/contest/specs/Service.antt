@@ -1,5 +1,6 @@
 -- Service rules: which side opens the next lower contest.
 use Rattle.std.specs.Prelude.{◌≡◌, ℕ, ◌+◌, ◌/◌, ◌%◌, Bool, true, false, cond, ◌&&◌, ◌==◌, nat_le}
+use Rattle.contest.specs.Goals.{swapped_counts}
 use Rattle.contest.specs.Sides.{opposite}
 use Rattle.contest.specs.declared.side.Side.{Side}
 use Rattle.contest.specs.declared.service.Situation.{Situation}
@@ -15,8 +16,7 @@ exchanged s = record {
   last_opener = opposite s.last_opener;
   server = opposite s.server;
   winner = opposite s.winner;
-  a = s.b;
-  b = s.a;
+  counts = swapped_counts s.counts;
 }
 
 -- the law of a service rule: with A and B exchanged it answers the opposite side
@@ -49,8 +49,8 @@ side_if false x = opposite x
 
 -- pairs: the opener above where half of (a + b + 1), rounded down, is even, else the opposite
 abbrev pub pairs : Rule
-pairs s = side_if (even ((s.a + s.b + 1) / 2)) s.opener
+pairs s = side_if (even ((s.counts.a + s.counts.b + 1) / 2)) s.opener
 
 -- twos: where both counts are at least 10, the opener above exactly when a + b is even; otherwise exactly when half of a + b, rounded down, is even
 abbrev pub twos : Rule
-twos s = side_if (cond (nat_le 10 s.a && nat_le 10 s.b) (even (s.a + s.b)) (even ((s.a + s.b) / 2))) s.opener
+twos s = side_if (cond (nat_le 10 s.counts.a && nat_le 10 s.counts.b) (even (s.counts.a + s.counts.b)) (even ((s.counts.a + s.counts.b) / 2))) s.opener

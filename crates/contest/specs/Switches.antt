@@ -3,8 +3,9 @@ use Rattle.std.specs.Prelude.{ℕ, Bool, true, false, ◌&&◌, ◌⊎◌, nat_l
 use Rattle.std.proofs.Common.{inl, inr}
 use Rattle.contest.specs.Contests.{Play, Contest}
 use Rattle.contest.specs.Service.{Rule}
-use Rattle.contest.specs.Goals.{Goal, Counts}
 use Rattle.contest.specs.Layers.{Layer, Standing, layer}
+use Rattle.contest.specs.declared.counts.Counts.{Counts}
+use Rattle.contest.specs.declared.goal.Goal.{Goal}
 
 -- an answer by which of the two contests stands: an ordinary one on the left, a deciding one on the right
 abbrev pub by_kind : {S T X : Type 0} → (S → X) → (T → X) → S ⊎ T → X

@@ -75,12 +75,7 @@ impl Contest for Hand {
     fn winner(&self) -> Option<Side>
         ensures { result ≡ hand_contest.play.winner (standing_of self.now) }
     {
-        // copied whole, it would be read across the two writes of `point`, for which the processor has to wait
-        match self.winner {
-            Some(Side::A) => Some(Side::A),
-            Some(Side::B) => Some(Side::B),
-            None => None,
-        }
+        self.winner
     }
 
     fn opener(&self) -> Side

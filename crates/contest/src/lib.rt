@@ -2,8 +2,10 @@
 #![tactic(auto)]
 
 pub mod contest;
+pub mod counts;
 mod depth;
 pub mod fault;
+pub mod goal;
 pub mod hand;
 pub mod level;
 pub mod play;

@@ -3,16 +3,16 @@ ghost use Rattle.contest.specs.Contests.{given, answered};
 ghost use Rattle.contest.specs.Depths.{LevelsWithin, Closed};
 ghost use Rattle.contest.specs.Built.{race_pile, race_standing, New, Reopened, PassedDown, Counted};
 ghost use Rattle.contest.specs.Faults.{goal_fault};
-ghost use Rattle.contest.specs.Goals.{goal, winner_by};
+ghost use Rattle.contest.specs.Goals.{winner_by};
 ghost use Rattle.contest.specs.Layers.{next_opener};
 ghost use Rattle.contest.specs.Piles.{contest_of, race_of, raced, race_layer};
 ghost use Rattle.contest.specs.Plays.{Plays};
-ghost use Rattle.contest.specs.Tally.{goal_of, counts_of};
 ghost use Rattle.contest.specs.GoalsLemmas.{no_goal_fault};
 
 use crate::contest::Contest;
 use crate::depth::closed_above;
 use crate::fault::{ContestFault, RuleFault};
+use crate::goal::Goal;
 use crate::level::Level;
 use crate::play::play_points;
 use crate::service::{Service, Situation};
@@ -29,17 +29,11 @@ pub struct Race<C, P> {
 }
 
 impl<C: Contest + Drop, P: Service + Drop> Race<C, P> {
-    // A race to `target` by `lead`, capped at `cap`, opened for side A. The contest below is used up.
-    pub fn new(
-        target: u16,
-        lead: u16,
-        cap: u16,
-        service: P,
-        mut below: C,
-    ) -> Result<Self, RuleFault>
-        ensures { New (race_pile C.Contest.pile P.Service.rule) (race_standing C.Contest.standing) (goal_fault (goal target lead «cap»)) (raced (goal target lead «cap») (P.Service.rule service) (C.Contest.pile below)) result }
+    // A race under a goal, opened for side A. The contest below is used up.
+    pub fn new(goal: Goal, service: P, mut below: C) -> Result<Self, RuleFault>
+        ensures { New (race_pile C.Contest.pile P.Service.rule) (race_standing C.Contest.standing) (goal_fault goal) (raced goal (P.Service.rule service) (C.Contest.pile below)) result }
     {
-        let tally = Tally::new(target, lead, cap)?;
+        let tally = Tally::new(goal)?;
         below.open(Side::A);
         Ok(Race {
             tally,
@@ -67,8 +61,7 @@ impl<C: Contest, P: Service> Race<C, P> {
             last_opener: self.below.opener(),
             server: self.below.server(),
             winner,
-            a: self.tally.a(),
-            b: self.tally.b(),
+            counts: self.tally.counts(),
         })
     }
 
@@ -91,7 +84,7 @@ impl<C: Contest, P: Service> Race<C, P> {
 
     // Counts the contest below for its winner, where it has one.
     fn count_below(&mut self)
-        requires { winner_by (goal_of self.old.tally) (counts_of self.old.tally) ≡ None }
+        requires { winner_by self.old.tally.goal self.old.tally.counts ≡ None }
         ensures { Counted (race_pile C.Contest.pile P.Service.rule) race_layer (race_standing C.Contest.standing) self.old self.new }
     {
         if let Some(winner) = self.below.winner() {
@@ -109,7 +102,7 @@ impl<C: Contest, P: Service> Contest for Race<C, P> {
 
     ghost sound = { λ s.
         let t = s.tally in (
-          no_goal_fault (goal_of t) (t.some_lead, t.lead_within, t.target_within, t.cap_within),
+          no_goal_fault t.goal (t.some_lead, t.lead_within, t.target_within, t.cap_within),
           P.Service.fair s.service,
           C.Contest.sound s.below,
         ) };

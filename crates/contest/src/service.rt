@@ -1,20 +1,20 @@
 ghost use Rattle.std.specs.Prelude.{◌≡◌};
 ghost use Rattle.contest.specs.Service.{Rule, Fair};
 
+use crate::counts::Counts;
 use crate::side::Side;
 
 pub mod rules;
 
 // All that a service rule is told, once a lower contest is decided: who opened the contest above and the
-// last lower contest, which server and winner that one names, and both counts after it.
+// last lower contest, which server and winner that one names, and the counts after it.
 #[derive(Clone, Copy)]
 pub struct Situation {
     pub opener: Side,
     pub last_opener: Side,
     pub server: Side,
     pub winner: Side,
-    pub a: u16,
-    pub b: u16,
+    pub counts: Counts,
 }
 
 // A service rule: it names the side that opens the next lower contest.

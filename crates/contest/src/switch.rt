@@ -1,6 +1,5 @@
 ghost use Rattle.std.specs.Prelude.{◌≡◌, true};
 ghost use Rattle.contest.specs.Faults.{threshold_allowed};
-ghost use Rattle.contest.specs.Tally.{goal_of};
 
 use crate::side::Side;
 use crate::tally::Tally;
@@ -18,5 +17,5 @@ pub struct Switch<C, D, P> {
     deciding: D,
     // the deciding contest was opened last
     decides: bool,
-    ghost allowed: { threshold_allowed (goal_of tally) threshold ≡ true },
+    ghost allowed: { threshold_allowed tally.goal threshold ≡ true },
 }

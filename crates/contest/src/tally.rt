@@ -1,20 +1,114 @@
-ghost use Rattle.std.specs.Prelude.{◌+◌, ◌<◌, ◌≤◌};
+ghost use Rattle.std.specs.Prelude.{◌≡◌, ◌+◌, ◌<◌, ◌≤◌, ◌↔◌, Some, None, MatchResult};
+ghost use Rattle.contest.specs.Faults.{goal_fault, threshold_allowed};
+ghost use Rattle.contest.specs.Goals.{Wins, reaches, winner_by, none_yet, tallied};
+ghost use Rattle.contest.specs.Layers.{own_level};
 
-pub(crate) mod counts;
+use crate::counts::Counts;
+use crate::fault::RuleFault;
+use crate::goal::Goal;
+use crate::level::Level;
+use crate::side::Side;
 
-// The counts of a layer, under a target, a lead and a cap. Only one side can be at the cap.
+// The counts of a layer, under its goal. Only one side can be at the cap.
 #[derive(Clone, Copy)]
 pub(crate) struct Tally {
-    target: u16,
-    lead: u16,
-    cap: u16,
-    a: u16,
-    b: u16,
-    ghost some_lead: { 1 ≤ lead },
-    ghost lead_within: { lead ≤ target },
-    ghost target_within: { target ≤ cap },
-    ghost cap_within: { cap ≤ 9999 },
-    ghost a_within: { a ≤ cap },
-    ghost b_within: { b ≤ cap },
-    ghost not_both: { a + b < cap + cap },
+    goal: Goal,
+    counts: Counts,
+    ghost some_lead: { 1 ≤ goal.lead },
+    ghost lead_within: { goal.lead ≤ goal.target },
+    ghost target_within: { goal.target ≤ goal.cap },
+    ghost cap_within: { goal.cap ≤ 9999 },
+    ghost a_within: { counts.a ≤ goal.cap },
+    ghost b_within: { counts.b ≤ goal.cap },
+    ghost not_both: { counts.a + counts.b < goal.cap + goal.cap },
+}
+
+impl Tally {
+    // No counts yet, under a goal.
+    pub(crate) fn new(goal: Goal) -> Result<Tally, RuleFault>
+        ensures { MatchResult result (λ t. (goal_fault goal ≡ None) × (t.goal ≡ goal) × (t.counts ≡ none_yet)) (λ e. goal_fault goal ≡ Some e) }
+    {
+        if !(1..=9999).contains(&goal.target) {
+            return Err(RuleFault::Target);
+        }
+        if !(1..=goal.target).contains(&goal.lead) {
+            return Err(RuleFault::Lead);
+        }
+        if !(goal.target..=9999).contains(&goal.cap) {
+            return Err(RuleFault::Cap);
+        }
+        Ok(Tally {
+            goal,
+            counts: Counts { a: 0, b: 0 },
+        })
+    }
+
+    // A switch may have this threshold under the tally's goal.
+    pub(crate) fn allows(&self, threshold: u16) -> bool
+        ensures { result ≡ threshold_allowed self.now.goal threshold }
+    {
+        let Goal { target, lead, cap } = self.goal;
+        (1..cap).contains(&threshold) && (lead != 1 || threshold < target)
+    }
+
+    // A count x against y is at least the target and ahead by the lead, or equal to the cap.
+    fn reaches(&self, x: u16, y: u16) -> bool
+        ensures { result ≡ reaches self.now.goal x y }
+    {
+        let Goal { target, lead, cap } = self.goal;
+        (x >= target && x as u32 >= y as u32 + lead as u32) || x == cap
+    }
+
+    // The winner by the counts, which is exactly the side whose count reaches the goal.
+    pub(crate) fn winner(&self) -> Option<Side>
+        ensures ahead { result ≡ winner_by self.now.goal self.now.counts }
+        ensures exactly { (x : Side) → (result ≡ Some x) ↔ Wins self.now.goal x self.now.counts }
+    {
+        let Counts { a, b } = self.counts;
+        if a > b && self.reaches(a, b) {
+            Some(Side::A)
+        } else if b > a && self.reaches(b, a) {
+            Some(Side::B)
+        } else {
+            None
+        }
+    }
+
+    pub(crate) fn counts(&self) -> Counts
+        ensures { result ≡ self.now.counts }
+    {
+        self.counts
+    }
+
+    // Both counts at 0.
+    pub(crate) fn clear(&mut self)
+        ensures goal { self.new.goal ≡ self.old.goal }
+        ensures counts { self.new.counts ≡ none_yet }
+    {
+        self.counts = Counts { a: 0, b: 0 };
+    }
+
+    // One more for a side. Nobody has won yet, so both counts are below the cap.
+    pub(crate) fn count(&mut self, side: Side)
+        requires { winner_by self.old.goal self.old.counts ≡ None }
+        ensures goal { self.new.goal ≡ self.old.goal }
+        ensures counts { self.new.counts ≡ tallied self.old.counts side }
+    {
+        match side {
+            Side::A => self.counts.a += 1,
+            Side::B => self.counts.b += 1,
+        }
+    }
+
+    // The level of the layer that has these counts.
+    pub(crate) fn level(&self) -> Level
+        ensures { result ≡ own_level self.now.goal self.now.counts }
+    {
+        let Counts { a, b } = self.counts;
+        Level {
+            a,
+            b,
+            winner: self.winner(),
+        }
+    }
 }

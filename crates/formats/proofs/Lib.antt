@@ -1,1 +1,1 @@
-pub mod Anchors
+pub mod Names

@@ -1,6 +1,8 @@
 -- The codes and names of the formats.
-use Rattle.std.specs.Prelude.{ℕ, zero, suc, List, [], ◌∷◌, Some, None, codes, Option}
+use Rattle.std.specs.Result.{result_ok}
+use Rattle.std.specs.Prelude.{◌≡◌, ◌↔◌, ℕ, zero, suc, List, [], ◌∷◌, Some, None, codes, Option, Ok, Result}
 use Rattle.formats.specs.declared.format.Format.{Format}
+use Rattle.formats.specs.declared.format.NoFormat.{NoFormat}
 use Rattle.formats.specs.declared.format.Format.TheVariants.{Game, Tennis3, Tennis5, TennisMt, Badminton, Volleyball, Table5, SideOut}
 
 abbrev pub code_of : Format → ℕ
@@ -34,3 +36,12 @@ nth (f ∷ fs) (suc n) = nth fs n
 
 abbrev pub format_of : ℕ → Option Format
 format_of code = nth formats code
+
+-- r is the format that is written x, or no format is
+abbrev pub ReadsFormat : {X : Type 0} → (Format → X) → X → Result Format NoFormat → Type 0
+ReadsFormat written x r = (f : Format) → (r ≡ Ok f) ↔ (written f ≡ x)
+
+-- r is the format that has the code
+pub record ReadsCode (code : ℕ) (r : Result Format NoFormat) : Type 0 where
+  pub value : result_ok r ≡ format_of code
+  pub exactly : ReadsFormat code_of code r

@@ -1,5 +1,11 @@
-ghost use Rattle.std.specs.Prelude.{◌≡◌, ◌↔◌, Some};
-ghost use Rattle.formats.specs.Formats.{code_of, name_of, format_of};
+ghost use Rattle.std.specs.Cmp.Lexicographic.{pointwise};
+ghost use Rattle.std.specs.List.{find};
+ghost use Rattle.std.specs.Prelude.{◌≡◌, Some, codes, nat_eq};
+ghost use Rattle.formats.specs.Formats.{code_of, name_of, ReadsCode, ReadsFormat};
+
+use std::error::Error;
+use std::fmt;
+use std::str::FromStr;
 
 // A format, in the order of the codes.
 #[derive(Clone, Copy, PartialEq, Eq, Debug)]
@@ -14,7 +20,7 @@ pub enum Format {
     SideOut,
 }
 
-// The formats by code.
+// The formats in the order of their codes.
 const FORMATS: [Format; 8] = [
     Format::Game,
     Format::Tennis3,
@@ -26,57 +32,79 @@ const FORMATS: [Format; 8] = [
     Format::SideOut,
 ];
 
-// Their names, by code.
-const NAMES: [&str; 8] = [
-    "game",
-    "tennis3",
-    "tennis5",
-    "tennismt",
-    "badminton",
-    "volleyball",
-    "table5",
-    "sideout",
-];
+// What is no format's code or name.
+#[derive(Clone, Copy, PartialEq, Eq, Debug)]
+pub struct NoFormat;
 
 impl Format {
-    // The format that has this code, where one has.
-    pub fn from_code(code: u8) -> Option<Format>
-        ensures value { result ≡ format_of code }
-        ensures exactly { (f : Format) → (result ≡ Some f) ↔ (code_of f ≡ code) }
-    {
-        if code < 8 {
-            Some(FORMATS[code as usize])
-        } else {
-            None
-        }
-    }
-
-    // The format that has this name, where one has.
-    pub fn from_name(name: &str) -> Option<Format>
-        ensures { (f : Format) → (result ≡ Some f) ↔ (name_of f ≡ name.now) }
-    {
-        match name {
-            "game" => Some(Format::Game),
-            "tennis3" => Some(Format::Tennis3),
-            "tennis5" => Some(Format::Tennis5),
-            "tennismt" => Some(Format::TennisMt),
-            "badminton" => Some(Format::Badminton),
-            "volleyball" => Some(Format::Volleyball),
-            "table5" => Some(Format::Table5),
-            "sideout" => Some(Format::SideOut),
-            _ => None,
-        }
-    }
-
-    pub fn code(self) -> u8
-        ensures { result ≡ code_of self }
-    {
-        self as u8
-    }
-
+    // The name of the format.
     pub fn name(self) -> &'static str
         ensures { result.now ≡ name_of self }
     {
-        NAMES[self as usize]
+        match self {
+            Format::Game => "game",
+            Format::Tennis3 => "tennis3",
+            Format::Tennis5 => "tennis5",
+            Format::TennisMt => "tennismt",
+            Format::Badminton => "badminton",
+            Format::Volleyball => "volleyball",
+            Format::Table5 => "table5",
+            Format::SideOut => "sideout",
+        }
     }
 }
+
+// The first of these formats that has the name.
+fn first_named(formats: &[Format], name: &str) -> Option<Format>
+    ensures { result ≡ find (λ format. pointwise nat_eq (name_of format) name.now) formats.now }
+{
+    formats.iter().copied().find(|format| format.name() == name)
+}
+
+// A format's code is its place in the order.
+impl From<Format> for u8 {
+    ghost from_gives = { λ format code. code ≡ code_of format };
+
+    fn from(format: Format) -> u8 {
+        format as u8
+    }
+}
+
+impl TryFrom<u8> for Format {
+    type Error = NoFormat;
+
+    ghost try_from_gives = { ReadsCode };
+
+    fn try_from(code: u8) -> Result<Format, NoFormat> {
+        FORMATS.get(usize::from(code)).copied().ok_or(NoFormat)
+    }
+}
+
+impl FromStr for Format {
+    type Err = NoFormat;
+
+    ghost from_str_gives = { ReadsFormat name_of };
+
+    fn from_str(name: &str) -> Result<Format, NoFormat> {
+        first_named(&FORMATS, name).ok_or(NoFormat)
+    }
+}
+
+// A format is shown by its name.
+impl fmt::Display for Format {
+    ghost output = { λ format. Some (name_of format) };
+
+    fn fmt<W: fmt::Write>(&self, f: &mut fmt::Formatter<W>) -> fmt::Result {
+        f.write_str(self.name())
+    }
+}
+
+impl fmt::Display for NoFormat {
+    ghost output = { λ _. Some (codes "there is no such format") };
+
+    fn fmt<W: fmt::Write>(&self, f: &mut fmt::Formatter<W>) -> fmt::Result {
+        f.write_str("there is no such format")
+    }
+}
+
+impl Error for NoFormat {}

@@ -40,7 +40,7 @@ impl Script {
         if words.next()? != "match" {
             return None;
         }
-        let format = Format::from_name(words.next()?)?;
+        let format = words.next()?.parse::<Format>().ok()?;
         let number = words.next()?.parse::<u16>().ok()?;
         let opener = side_word(words.next()?)?;
         let places = match words.next() {

@@ -74,8 +74,8 @@ pub fn score<C: Contest + Drop>(
     ensures scores { Scores (C.Contest.pile pile) number code opener (entries log.now) (entries closings.old) (spare closings.old) sheet.old result (entries closings.new) (spare closings.new) sheet.new }
     ensures same { closings.new.places.ghost_name ≡ closings.old.places.ghost_name }
 {
-    match Format::from_code(code) {
-        Some(format) => {
+    match Format::try_from(code) {
+        Ok(format) => {
             let heading = Heading {
                 number,
                 format,
@@ -83,6 +83,6 @@ pub fn score<C: Contest + Drop>(
             };
             score_in(pile, heading, log, closings, sheet)
         }
-        None => Err(ScoreFault::Code),
+        Err(_) => Err(ScoreFault::Code),
     }
 }

@@ -48,8 +48,8 @@ fn score_read(
     ensures { ScoredSo header (entries log.now) closings.old sheet.old closings.new sheet.new result }
 {
     let mut roll = Roll::new(closings);
-    match Format::from_code(header.code) {
-        Some(format) => {
+    match Format::try_from(header.code) {
+        Ok(format) => {
             let heading = Heading {
                 number: header.number,
                 format,
@@ -57,7 +57,7 @@ fn score_read(
             };
             score_format(heading, log, &mut roll, sheet)
         }
-        None => unreachable(),
+        Err(_) => unreachable(),
     }
 }
 

@@ -58,7 +58,7 @@ fn parse_line(heap: Global, text: &str) -> anyhow::Result<Line> {
     let (name, rest) = text.split_once(' ').context("a line has no opener")?;
     let (opener, points) = rest.split_once(' ').context("a line has no points")?;
     Ok(Line {
-        format: Format::from_name(name).context("there is no such format")?,
+        format: name.parse::<Format>()?,
         opener: side_word(opener).context("an opener is neither A nor B")?,
         points: points_of(heap, points)?,
     })

@@ -85,7 +85,7 @@ impl Service for Pairs {
     fn next(&self, situation: Situation) -> Side
         ensures { result ≡ pairs situation }
     {
-        let played = situation.a as u32 + situation.b as u32;
+        let played = situation.counts.a as u32 + situation.counts.b as u32;
         if (played + 1) / 2 % 2 == 0 {
             situation.opener
         } else {
@@ -102,8 +102,8 @@ impl Service for Twos {
     fn next(&self, situation: Situation) -> Side
         ensures { result ≡ twos situation }
     {
-        let played = situation.a as u32 + situation.b as u32;
-        let turns = if situation.a >= 10 && situation.b >= 10 {
+        let played = situation.counts.a as u32 + situation.counts.b as u32;
+        let turns = if situation.counts.a >= 10 && situation.counts.b >= 10 {
             played
         } else {
             played / 2

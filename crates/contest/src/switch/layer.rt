@@ -3,17 +3,18 @@ ghost use Rattle.contest.specs.Contests.{given, answered};
 ghost use Rattle.contest.specs.Depths.{LevelsWithin, Closed};
 ghost use Rattle.contest.specs.Built.{switch_pile, switch_standing, New, Reopened, OpenedBelow, PassedDown, Counted};
 ghost use Rattle.contest.specs.Faults.{switch_fault};
-ghost use Rattle.contest.specs.Goals.{goal, winner_by};
+ghost use Rattle.contest.specs.Goals.{winner_by};
 ghost use Rattle.contest.specs.Layers.{next_opener};
 ghost use Rattle.contest.specs.Piles.{contest_of, switch_of, switched, switch_layer};
 ghost use Rattle.contest.specs.Plays.{Plays};
-ghost use Rattle.contest.specs.Tally.{goal_of, counts_of};
 ghost use Rattle.contest.specs.GoalsLemmas.{no_switch_fault};
 
 use super::Switch;
 use crate::contest::Contest;
+use crate::counts::Counts;
 use crate::depth::closed_above;
 use crate::fault::{ContestFault, RuleFault};
+use crate::goal::Goal;
 use crate::level::Level;
 use crate::play::play_points;
 use crate::service::{Service, Situation};
@@ -21,19 +22,17 @@ use crate::side::Side;
 use crate::tally::Tally;
 
 impl<C: Contest + Drop, D: Contest + Drop, P: Service + Drop> Switch<C, D, P> {
-    // A switch to `target` by `lead`, capped at `cap`, opened for side A. The contests below are used up.
+    // A switch under a goal, opened for side A. The contests below are used up.
     pub fn new(
-        target: u16,
-        lead: u16,
-        cap: u16,
+        goal: Goal,
         threshold: u16,
         service: P,
         ordinary: C,
         deciding: D,
     ) -> Result<Self, RuleFault>
-        ensures { New (switch_pile C.Contest.pile D.Contest.pile P.Service.rule) (switch_standing C.Contest.standing D.Contest.standing) (switch_fault (goal target lead «cap») threshold) (switched (goal target lead «cap») (P.Service.rule service) threshold (C.Contest.pile ordinary) (D.Contest.pile deciding)) result }
+        ensures { New (switch_pile C.Contest.pile D.Contest.pile P.Service.rule) (switch_standing C.Contest.standing D.Contest.standing) (switch_fault goal threshold) (switched goal (P.Service.rule service) threshold (C.Contest.pile ordinary) (D.Contest.pile deciding)) result }
     {
-        let tally = Tally::new(target, lead, cap)?;
+        let tally = Tally::new(goal)?;
         if !tally.allows(threshold) {
             return Err(RuleFault::Threshold);
         }
@@ -118,8 +117,7 @@ impl<C: Contest, D: Contest, P: Service> Switch<C, D, P> {
             last_opener: self.opener_below(),
             server: self.server_below(),
             winner,
-            a: self.tally.a(),
-            b: self.tally.b(),
+            counts: self.tally.counts(),
         })
     }
 
@@ -127,7 +125,8 @@ impl<C: Contest, D: Contest, P: Service> Switch<C, D, P> {
     fn open_below(&mut self, opener: Side)
         ensures { OpenedBelow (switch_pile C.Contest.pile D.Contest.pile P.Service.rule) switch_layer (switch_standing C.Contest.standing D.Contest.standing) self.old self.new opener }
     {
-        self.decides = self.tally.a() >= self.threshold && self.tally.b() >= self.threshold;
+        let Counts { a, b } = self.tally.counts();
+        self.decides = a >= self.threshold && b >= self.threshold;
         if self.decides {
             self.deciding.open(opener);
         } else {
@@ -158,7 +157,7 @@ impl<C: Contest, D: Contest, P: Service> Switch<C, D, P> {
 
     // Counts the contest below for its winner, where it has one.
     fn count_below(&mut self)
-        requires { winner_by (goal_of self.old.tally) (counts_of self.old.tally) ≡ None }
+        requires { winner_by self.old.tally.goal self.old.tally.counts ≡ None }
         ensures { Counted (switch_pile C.Contest.pile D.Contest.pile P.Service.rule) switch_layer (switch_standing C.Contest.standing D.Contest.standing) self.old self.new }
     {
         if let Some(winner) = self.winner_below() {
@@ -176,7 +175,7 @@ impl<C: Contest, D: Contest, P: Service> Contest for Switch<C, D, P> {
 
     ghost sound = { λ s.
         let t = s.tally in (
-          no_switch_fault (goal_of t) s.threshold (t.some_lead, t.lead_within, t.target_within, t.cap_within) s.allowed,
+          no_switch_fault t.goal s.threshold (t.some_lead, t.lead_within, t.target_within, t.cap_within) s.allowed,
           P.Service.fair s.service,
           C.Contest.sound s.ordinary,
           D.Contest.sound s.deciding,

@@ -8,7 +8,7 @@ use Rattle.sheet.proofs.sheets.score_read.Goals as goal
 pub returns : goal.returns
 returns c =
     let h = c.args.header in
-    let f = c.in-Some.format in
+    let f = c.in-Ok.format in
     let roll = c.score_format.new.closings in
     let new = c.new-roll.ensures in
     let places = ap₂ ◌++◌ new.entries new.spare in
@@ -16,7 +16,7 @@ returns c =
     let whole : roll.places.now ≡ entries roll ++ spare roll = sym (take-append-drop roll.count roll.places.now) in
     record {
       format = f;
-      named = sym c.in-Some.ensures.value;
+      named = sym c.in-Ok.ensures.value;
       held = entries roll;
       left = spare roll;
       closings_are = search rules;
