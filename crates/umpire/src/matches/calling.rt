@@ -11,6 +11,7 @@ use roll::Roll;
 
 impl<C: Contest> Match<C> {
     // Calls a rally, to be settled with the same log. Settled next, it is not refused.
+    #[tactic(auto, using(crate::proofs::Refusals::fresh_settles, crate::proofs::Refusals::fresh_point_settles))]
     pub fn call(&mut self, log: &Roll<Entry>) -> Result<Rally, CallFault>
         ensures answer { result ≡ call_result (next_rally (state_of C.Contest.standing self.old log.now)) (call_refusal (rules_of C.Contest.pile self.old) (state_of C.Contest.standing self.old log.now)) }
         ensures steps { Steps C.Contest.pile C.Contest.standing self.old log.now self.new log.now (λ r c. left_after r c RallyCall) }

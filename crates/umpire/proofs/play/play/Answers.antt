@@ -10,11 +10,8 @@ use Rattle.umpire.specs.declared.calls.Call.{Call}
 use Rattle.umpire.proofs.Inductions.{same_number}
 use Rattle.umpire.proofs.Only.{one_way}
 use Rattle.umpire.proofs.Promise.{promised}
-use Rattle.umpire.proofs.Turns.{one_more, at_end, same_state, none_made}
+use Rattle.umpire.proofs.Turns.{one_more, at_end, same_state}
 use Rattle.umpire.proofs.play.play.Goals as goal
-
-pub loop-call-init : goal.loop-call-init
-loop-call-init g c = (refl, none_made _ _ _ _ _ c.clear-2.ensures.entries, refl, refl)
 
 pub loop-call-preserved : goal.loop-call-preserved
 loop-call-preserved g c =
