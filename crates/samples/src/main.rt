@@ -14,6 +14,7 @@ const CLOSINGS: usize = 4_000;
 
 const SHEET_BYTES: usize = 65_536;
 
+// The places are made and the sheet is printed as in the program `scorer`, which says why the two share no library.
 fn score_file(rt: &HostRuntime, name: &str) -> anyhow::Result<()> {
     let heap = rt.alloc();
     let bytes = fs::read(rt, name)?;
