@@ -147,7 +147,12 @@ fn all_lets(rt: &HostRuntime) -> io::Result<()> {
 
 fn main(rt: HostRuntime) -> io::Result<()> {
     cut_copies(&rt)?;
-    for (label, byte) in [("255 at", 255), ("M at", b'M'), ("P at", b'P'), ("L at", b'L')] {
+    for (label, byte) in [
+        ("255 at", 255),
+        ("M at", b'M'),
+        ("P at", b'P'),
+        ("L at", b'L'),
+    ] {
         spoilt_copies(&rt, label, byte)?;
     }
     few_places(&rt)?;

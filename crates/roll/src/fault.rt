@@ -6,6 +6,7 @@ use std::error::Error;
 use std::fmt;
 
 impl Full {
+    // The number of the refusal.
     pub fn number(self) -> u8
         ensures { result ≡ full_number }
     {
