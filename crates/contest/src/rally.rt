@@ -68,7 +68,12 @@ impl Contest for Rally {
     fn winner(&self) -> Option<Side>
         ensures { result ≡ rally_contest.play.winner (standing_of self.now) }
     {
-        self.winner
+        // copied whole, it would be read across the two writes of `point`, for which the processor has to wait; bin/bench shows it on table5
+        match self.winner {
+            Some(Side::A) => Some(Side::A),
+            Some(Side::B) => Some(Side::B),
+            None => None,
+        }
     }
 
     fn opener(&self) -> Side
