@@ -1,2 +1,1 @@
-pub mod Anchors
 pub mod Names

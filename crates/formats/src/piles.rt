@@ -1,12 +1,15 @@
+ghost use Rattle.std.specs.Prelude.{◌≤◌};
 ghost use Rattle.contest.specs.Built.{race_pile, race_standing, switch_pile, switch_standing, Opened};
 ghost use Rattle.contest.specs.Service.{stay, turn, to_winner, carry, pairs, twos};
 ghost use Rattle.formats.specs.Models.{rallies_pile, rallies_standing, sets_pile, sets_standing, hands_pile, hands_standing};
 ghost use Rattle.formats.specs.Table as table;
 
+use contest::contest::Contest;
 use contest::goal::Goal;
 use contest::hand::Hand;
 use contest::race::Race;
 use contest::rally::Rally;
+use contest::service::Service;
 use contest::service::rules::{Carry, Pairs, Stay, Turn, Twos, Winner};
 use contest::switch::Switch;
 
@@ -36,63 +39,80 @@ pub type Table5 = Race<Race<Rally, Twos>, Turn>;
 
 pub type SideOut = Race<Race<Hand, Winner>, Winner>;
 
+// The cap of a race that goes on until one side leads.
+const NO_CAP: u16 = 9999;
+
+// A race over rallies to `target` by two.
+fn by_two<P: Service + Drop>(target: u16, service: P) -> Race<Rally, P>
+    requires enough { 2 ≤ target }
+    requires allowed { target ≤ 9999 }
+    ensures { Opened (race_pile (λ _. table.rally) P.Service.rule) rallies_standing (table.R target 2 9999 (P.Service.rule service) table.rally) result }
+{
+    Race::new(Goal::new(target, 2, NO_CAP), service, Rally::new()).unwrap()
+}
+
+// A race that a side wins with its `wins`th contest below, whatever the other has won.
+fn first_to<C: Contest + Drop, P: Service + Drop>(wins: u16, service: P, below: C) -> Race<C, P>
+    requires enough { 1 ≤ wins }
+    requires allowed { wins ≤ 9999 }
+    ensures { Opened (race_pile C.Contest.pile P.Service.rule) (race_standing C.Contest.standing) (table.R wins 1 wins (P.Service.rule service) (C.Contest.pile below)) result }
+{
+    Race::new(Goal::new(wins, 1, wins), service, below).unwrap()
+}
+
 pub fn game() -> Game
     ensures { Opened (rallies_pile stay) rallies_standing table.game result }
 {
-    Race::new(Goal::new(4, 2, 9999), Stay, Rally::new()).unwrap()
+    by_two(4, Stay)
 }
 
 pub fn set() -> Set
     ensures { Opened (sets_pile stay pairs turn) sets_standing table.set result }
 {
-    let tie_break = Race::new(Goal::new(7, 2, 9999), Pairs, Rally::new()).unwrap();
-    Switch::new(Goal::new(6, 2, 7), 6, Turn, game(), tie_break).unwrap()
+    Switch::new(Goal::new(6, 2, 7), 6, Turn, game(), by_two(7, Pairs)).unwrap()
 }
 
 pub fn tennis3() -> Tennis
     ensures { Opened (race_pile (sets_pile stay pairs turn) (λ _. carry)) (race_standing sets_standing) table.tennis3 result }
 {
-    Race::new(Goal::new(2, 1, 2), Carry, set()).unwrap()
+    first_to(2, Carry, set())
 }
 
 pub fn tennis5() -> Tennis
     ensures { Opened (race_pile (sets_pile stay pairs turn) (λ _. carry)) (race_standing sets_standing) table.tennis5 result }
 {
-    Race::new(Goal::new(3, 1, 3), Carry, set()).unwrap()
+    first_to(3, Carry, set())
 }
 
 pub fn tennismt() -> TennisMt
     ensures { Opened (switch_pile (sets_pile stay pairs turn) (rallies_pile pairs) (λ _. carry)) (switch_standing sets_standing rallies_standing) table.tennismt result }
 {
-    let tie_break = Race::new(Goal::new(10, 2, 9999), Pairs, Rally::new()).unwrap();
-    Switch::new(Goal::new(2, 1, 2), 1, Carry, set(), tie_break).unwrap()
+    Switch::new(Goal::new(2, 1, 2), 1, Carry, set(), by_two(10, Pairs)).unwrap()
 }
 
 pub fn badminton() -> Badminton
     ensures { Opened (race_pile (rallies_pile to_winner) (λ _. to_winner)) (race_standing rallies_standing) table.badminton result }
 {
     let game = Race::new(Goal::new(21, 2, 30), Winner, Rally::new()).unwrap();
-    Race::new(Goal::new(2, 1, 2), Winner, game).unwrap()
+    first_to(2, Winner, game)
 }
 
 pub fn volleyball() -> Volleyball
     ensures { Opened (sets_pile to_winner to_winner turn) sets_standing table.volleyball result }
 {
-    let set = Race::new(Goal::new(25, 2, 9999), Winner, Rally::new()).unwrap();
-    let fifth = Race::new(Goal::new(15, 2, 9999), Winner, Rally::new()).unwrap();
+    let set = by_two(25, Winner);
+    let fifth = by_two(15, Winner);
     Switch::new(Goal::new(3, 1, 3), 2, Turn, set, fifth).unwrap()
 }
 
 pub fn table5() -> Table5
     ensures { Opened (race_pile (rallies_pile twos) (λ _. turn)) (race_standing rallies_standing) table.table5 result }
 {
-    let game = Race::new(Goal::new(11, 2, 9999), Twos, Rally::new()).unwrap();
-    Race::new(Goal::new(3, 1, 3), Turn, game).unwrap()
+    first_to(3, Turn, by_two(11, Twos))
 }
 
 pub fn sideout() -> SideOut
     ensures { Opened (race_pile (hands_pile to_winner) (λ _. to_winner)) (race_standing hands_standing) table.sideout result }
 {
-    let game = Race::new(Goal::new(15, 1, 15), Winner, Hand::new()).unwrap();
-    Race::new(Goal::new(2, 1, 2), Winner, game).unwrap()
+    first_to(2, Winner, first_to(15, Winner, Hand::new()))
 }
