@@ -41,7 +41,7 @@ pub struct Unsettled {
 }
 
 impl Rally {
-    // The rally of these numbers. Only a match makes one.
+    // The rally of these numbers. It is made in this crate alone: by a match that calls it, and by `play` from the numbers handed in.
     pub(crate) fn new(numbers: RallyNumbers) -> Rally
         ensures { result ≡ rally_with numbers }
     {
