@@ -4,16 +4,15 @@ use Rattle.contest.specs.Contests.{Contest}
 use Rattle.contest.specs.Piles.{Shape, StandingOf, Pile}
 use Rattle.rally_log.specs.Written.{log_bytes, entry_bytes}
 use Rattle.rally_log.specs.declared.entry.Entry.{Entry}
-use Rattle.rally_log.specs.declared.entry.Entry.TheVariants.{Let, Point}
+use Rattle.rally_log.specs.declared.entry.Entry.TheVariants.{Let}
 use Rattle.rally_log.specs.declared.entry.Header.{Header}
 use Rattle.roll.specs.Rolls.{entries}
-use Rattle.umpire.specs.Calls.{State, numbers_of, next_rally, left_after, let_settled, call_refusal, settle_refusal, point_refusal}
+use Rattle.umpire.specs.Calls.{State, numbers_of, rally_with, settling, next_rally, left_after, let_settled, call_refusal, outcome_refusal}
 use Rattle.umpire.specs.States.{state_of, rules_of}
 use Rattle.umpire.specs.declared.calls.Call.{Call}
 use Rattle.umpire.specs.declared.rally.CallFault.{CallFault}
 use Rattle.umpire.specs.declared.rally.CallFault.TheVariants.{OtherRally}
 use Rattle.umpire.specs.declared.rally.Rally.{Rally}
-use Rattle.umpire.specs.declared.rally.RallyNumbers.{RallyNumbers}
 use Rattle.chair.specs.declared.command.Command.{Command}
 use Rattle.chair.specs.declared.session.Session.{Session}
 use Rattle.chair.specs.declared.session.reply.Reply.{Reply}
@@ -29,15 +28,6 @@ session_rules pile s = rules_of pile s.ongoing
 -- the entries of its log
 abbrev pub logged : {C : Type 0} → Session C → List Entry
 logged s = entries s.log.now
-
--- the umpire's call that settles a rally so
-abbrev pub settling : Entry → RallyNumbers → Call
-settling Let t = Call.Let t
-settling (Point x) t = Call.Point x t
-
--- the rally of these numbers
-abbrev pub rally_of : RallyNumbers → Rally
-rally_of t = record { numbers = t }
 
 -- the first of two, where there is a refusal, else the second
 abbrev pub if_refused : {X : Type 0} → Option CallFault → X → X → X
@@ -70,16 +60,11 @@ left_at_close c None = c
 left_at_close c (Some q) = let_settled c
 
 module _ {S : Type 0} (r : Contest S) where
-  -- why a rally cannot be settled so, if it cannot
-  abbrev pub outcome_refusal : State S → Entry → RallyNumbers → Option CallFault
-  outcome_refusal c Let t = settle_refusal c t
-  outcome_refusal c (Point x) t = point_refusal r c t
-
   -- what a command is replied to: with no rally held there is none to settle
   abbrev pub reply_to : State S → Option Rally → Command → Reply
   reply_to c held Command.Rally = reply_unless Reply.Called (call_refusal r c)
   reply_to c None (Command.Settle e) = Reply.Refused OtherRally
-  reply_to c (Some q) (Command.Settle e) = reply_unless (Reply.Settled e) (outcome_refusal c e (numbers_of q))
+  reply_to c (Some q) (Command.Settle e) = reply_unless (Reply.Settled e) (outcome_refusal r c e (numbers_of q))
   reply_to c held Command.Score = Reply.Asked
   reply_to c held Command.Quit = Reply.Asked
 
@@ -93,9 +78,9 @@ module _ {S : Type 0} (r : Contest S) where
 
   -- the rally that is held then
   abbrev pub held_after : State S → Option Rally → Command → Option Rally
-  held_after c held Command.Rally = if_refused (call_refusal r c) held (Some (rally_of (next_rally c)))
+  held_after c held Command.Rally = if_refused (call_refusal r c) held (Some (rally_with (next_rally c)))
   held_after c None (Command.Settle e) = None
-  held_after c (Some q) (Command.Settle e) = if_refused (outcome_refusal c e (numbers_of q)) (Some q) None
+  held_after c (Some q) (Command.Settle e) = if_refused (outcome_refusal r c e (numbers_of q)) (Some q) None
   held_after c held Command.Score = held
   held_after c held Command.Quit = held
 

@@ -63,11 +63,7 @@ impl<'a, 'b, C: Contest> Session<'a, 'b, C> {
         let Some(rally) = self.held.take() else {
             return Reply::Refused(CallFault::OtherRally);
         };
-        let settled = match outcome {
-            Entry::Let => self.ongoing.settle_let(self.log, rally),
-            Entry::Point(side) => self.ongoing.settle_point(self.log, rally, side),
-        };
-        match settled {
+        match self.ongoing.settle(self.log, rally, outcome) {
             Ok(()) => Reply::Settled(outcome),
             Err(Unsettled { rally, fault }) => match self.held.replace(rally) {
                 None => Reply::Refused(fault),
