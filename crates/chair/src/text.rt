@@ -48,7 +48,7 @@ pub fn level_label(format: Format, depth: u16, innermost: bool) -> &'static str
     }
 }
 
-// Why a command is refused, and what to do.
+// Why a command is refused, and what to do. The umpire's own `Display` is shorter: it knows of no commands.
 pub fn reason_text(fault: CallFault) -> &'static str
     ensures { result.now ≡ reason_written fault }
 {

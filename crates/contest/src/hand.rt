@@ -32,7 +32,7 @@ impl Hand {
         }
     }
 
-    // A hand that is opened for `opener` and given the points.
+    // A hand that is opened for `opener` and given the points. It is no method of the trait, as `Rally` says of its own.
     pub fn play(opener: Side, points: &[Side], depth: u16) -> Outcome
         ensures { Tells (bottom hand_contest) opener points.now depth result }
     {

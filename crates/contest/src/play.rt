@@ -27,7 +27,7 @@ pub fn play_points<C: Contest>(pile: &mut C, opener: Side, points: &[Side]) -> u
     points.len()
 }
 
-// The same, and asks the pile everything then, its level at `depth`.
+// The same, and asks the pile everything then, its level at `depth`. The three arguments stand one by one: all that have them hand them on to here.
 pub fn outcome_of<C: Contest>(pile: &mut C, opener: Side, points: &[Side], depth: u16) -> Outcome
     ensures plays { Plays C.Contest.pile C.Contest.standing pile.old pile.new opener points.now result.taken }
     ensures tells { Tells (C.Contest.pile pile.old) opener points.now depth result }

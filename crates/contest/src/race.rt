@@ -19,6 +19,7 @@ use crate::side::Side;
 use crate::tally::Tally;
 
 // A layer over one contest, which is played again and again until a side has won it often enough.
+// Its methods are like those of `Switch`, which says why the two are not one type.
 #[derive(Drop)]
 pub struct Race<C, P> {
     tally: Tally,

@@ -30,7 +30,8 @@ impl Rally {
         }
     }
 
-    // A rally that is opened for `opener` and given the points.
+    // A rally that is opened for `opener` and given the points. It is no method of the trait: the contract names the definition of a rally
+    // and no ghost member, so that no contest can pass for one.
     pub fn play(opener: Side, points: &[Side], depth: u16) -> Outcome
         ensures { Tells (bottom rally_contest) opener points.now depth result }
     {

@@ -54,6 +54,7 @@ impl TryFrom<u8> for Side {
     }
 }
 
+// The same letter as a word: a text and a byte are matched by patterns of different types.
 impl FromStr for Side {
     type Err = NoSide;
 

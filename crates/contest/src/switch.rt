@@ -17,7 +17,7 @@ pub struct Switch<C, D, P> {
     service: P,
     ordinary: C,
     deciding: D,
-    // the deciding contest was opened last
+    // the deciding contest was opened last; a flag and no enum around the contest, since both stay, with their rules
     decides: bool,
     ghost allowed: { threshold_allowed tally.goal threshold ≡ true },
 }

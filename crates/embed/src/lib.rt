@@ -14,6 +14,7 @@ use sheet::score::Scored;
 use sheet::sheets::score_log;
 
 // What C is told of a log: the length of its sheet and the winner, as `A`, `B` or 0 for nobody yet; or the fault's number and place.
+// They are numbers, since C has no `Result`.
 #[repr(C)]
 #[derive(Clone, Copy)]
 pub struct SheetAnswer {

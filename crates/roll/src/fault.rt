@@ -6,7 +6,7 @@ use std::error::Error;
 use std::fmt;
 
 impl Full {
-    // The number of the refusal.
+    // The number of the refusal, of which there is only one.
     pub fn number(self) -> u8
         ensures { result ≡ full_number }
     {

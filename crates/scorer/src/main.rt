@@ -25,13 +25,11 @@ const SHEET_BYTES: usize = 65_536;
 // The bytes of the log, as far as they are read; none, where there is no file.
 fn read_log(rt: &HostRuntime) -> io::Result<Vec<u8>> {
     let mut bytes = Vec::new(rt.alloc());
-    match File::open(rt, LOG) {
-        Ok(file) => {
-            file.take(LOG_BYTES).read_to_end(&mut bytes)?;
-        }
-        Err(error) if error.kind() == ErrorKind::NotFound => {}
-        Err(error) => return Err(error),
-    }
+    let file = match File::open(rt, LOG) {
+        Err(error) if error.kind() == ErrorKind::NotFound => return Ok(bytes),
+        opened => opened?,
+    };
+    file.take(LOG_BYTES).read_to_end(&mut bytes)?;
     Ok(bytes)
 }
 

@@ -19,6 +19,7 @@ pub enum ScoreFault {
 }
 
 impl ScoreFault {
+    // A match, since a fault that holds a place cannot be cast to its number.
     pub fn number(self) -> u8
         ensures { result ≡ score_fault_number self }
     {
@@ -58,6 +59,7 @@ pub enum LogFault {
 }
 
 impl LogFault {
+    // The number of the fault that it holds.
     pub fn number(self) -> u8
         ensures { result ≡ log_fault_number self }
     {

@@ -18,7 +18,8 @@ pub struct Scored {
     pub winner: Option<Side>,
 }
 
-// Scores a log in a format.
+// Scores a log in a format. The log, the closings and the sheet are lent one by one: in a struct, each would need a clause that it is still the lender's.
+//
 pub(crate) fn score_in<C: Contest + Drop>(
     mut pile: C,
     heading: Heading,

@@ -69,6 +69,7 @@ impl FromStr for Command {
 pub fn command_of(line: &[u8]) -> Result<Command, NoCommand>
     ensures { ReadsCommand (trimmed line.now) result }
 {
+    // a match, since after `map_err` and `?` it is no longer at hand why the bytes are no text
     match from_utf8(without_blanks(line)) {
         Ok(word) => word.parse(),
         Err(_) => Err(NoCommand),

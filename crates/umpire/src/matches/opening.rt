@@ -10,6 +10,7 @@ use contest::side::Side;
 
 impl<C: Contest> Match<C> {
     // A match with this number over the pile, which it opens for `opener`. Its log has to be empty.
+    // The three arguments are what a match is made of, so a struct of them would be taken apart at once.
     pub fn new(number: u16, mut pile: C, opener: Side) -> Match<C>
         ensures kept { C.Contest.pile result.pile ≡ C.Contest.pile pile }
         ensures number { result.number ≡ number }
