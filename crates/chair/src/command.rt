@@ -16,5 +16,5 @@ pub enum Command {
 }
 
 // What is no command.
-#[derive(Clone, Copy)]
+#[derive(Clone, Copy, Debug)]
 pub struct NoCommand;

@@ -5,7 +5,7 @@ ghost use Rattle.chair.specs.Starts.{Names};
 use contest::side::Side;
 use formats::format::Format;
 
-// The match that is to be played.
+// The match that is to be played: what a sheet's heading says too, which this program does not write.
 #[derive(Clone, Copy)]
 pub struct Start {
     pub format: Format,
@@ -13,7 +13,7 @@ pub struct Start {
     pub opener: Side,
 }
 
-// The match of three words, if they name one.
+// The match of three words, if they name one: no `FromStr`, which has one.
 pub fn start_of(format: &str, number: &str, opener: &str) -> Option<Start>
     ensures { MatchOption result ((start : Start) → Names format.now number.now opener.now start → ⊥) (λ start. Names format.now number.now opener.now start) }
 {

@@ -20,6 +20,9 @@ Allowed g = (1 ≤ g.lead) × (g.lead ≤ g.target) × (g.target ≤ g.cap) × (
 pub goal_allowed : (g : Goal) → goal_fault g ≡ None → Allowed g
 goal_allowed g e = grind (arith, nat_tests)
 
+pub no_goal_fault : (g : Goal) → Allowed g → goal_fault g ≡ None
+no_goal_fault g h = grind (arith, nat_tests)
+
 pub switch_allowed : (g : Goal) (k : ℕ) → switch_fault g k ≡ None → goal_fault g ≡ None
 switch_allowed g k e = go (goal_fault g) e
   where
@@ -27,8 +30,8 @@ switch_allowed g k e = go (goal_fault g) e
     go None h = refl
     go (Some x) h = cc
 
-pub no_switch_fault : (g : Goal) (k : ℕ) → goal_fault g ≡ None → threshold_allowed g k ≡ true → switch_fault g k ≡ None
-no_switch_fault g k h e = rw (h, e) refl
+pub no_switch_fault : (g : Goal) (k : ℕ) → Allowed g → threshold_allowed g k ≡ true → switch_fault g k ≡ None
+no_switch_fault g k h e = rw (no_goal_fault g h, e) refl
 
 -- the test says what the rule says
 reaches_by : (g : Goal) (x y : ℕ) → reaches g x y ≡ true → Reaches g x y

@@ -44,7 +44,7 @@ pub trait Contest {
     fn level(&self, depth: u16) -> Option<Level>
         ensures { result ≡ (contest_of (pile self.now)).play.level (standing self.now) depth };
 
-    // A depth from which on there is no level, as near to the top as is known.
+    // A depth from which on there is no level, as near to the top as is known. The largest depth is such a one for every contest, so it is no `None`.
     fn levels(&self) -> u16
         ensures { LevelsWithin (contest_of (pile self.now)).play (standing self.now) result }
     {

@@ -12,6 +12,7 @@ pub enum ContestFault {
 }
 
 impl ContestFault {
+    // Every refusal has such a method of its own: in a trait the clause would name a ghost member in place of the definition.
     pub fn number(self) -> u8
         ensures { result ≡ contest_fault_number self }
     {

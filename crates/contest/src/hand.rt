@@ -13,6 +13,7 @@ use crate::play::{Outcome, outcome_of};
 use crate::side::Side;
 
 // A contest for side-out scoring: a point for the server wins it, and a point for the other side makes that side the server.
+// What is like in `Rally` and here stays in both, since each method has a clause that names its own contest's definition.
 #[derive(Clone, Copy)]
 pub struct Hand {
     opener: Side,

@@ -19,6 +19,7 @@ pub fn play_points<C: Contest>(pile: &mut C, opener: Side, points: &[Side]) -> u
     ensures { Plays C.Contest.pile C.Contest.standing pile.old pile.new opener points.now result }
 {
     pile.open(opener);
+    // a loop and no `position`: of a chain whose closure gives points, no contract says how the pile is left
     for (i, side) in points.iter().enumerate() {
         if pile.point(*side).is_err() {
             return i;
@@ -27,7 +28,7 @@ pub fn play_points<C: Contest>(pile: &mut C, opener: Side, points: &[Side]) -> u
     points.len()
 }
 
-// The same, and asks the pile everything then, its level at `depth`. The three arguments stand one by one: all that have them hand them on to here.
+// The same, and asks the pile everything then, its level at `depth`. The three arguments stand one by one: a struct of them would be made by a caller only to be taken apart here.
 pub fn outcome_of<C: Contest>(pile: &mut C, opener: Side, points: &[Side], depth: u16) -> Outcome
     ensures plays { Plays C.Contest.pile C.Contest.standing pile.old pile.new opener points.now result.taken }
     ensures tells { Tells (C.Contest.pile pile.old) opener points.now depth result }

@@ -1,4 +1,4 @@
-ghost use Rattle.std.specs.Prelude.{◌≡◌, [], ◌∷◌, Some};
+ghost use Rattle.std.specs.Prelude.{◌≡◌, [], ◌∷◌, Some, codes};
 ghost use Rattle.contest.specs.Sides.{opposite, letter, ReadsSide};
 
 use std::error::Error;
@@ -81,6 +81,8 @@ impl fmt::Display for Side {
 }
 
 impl fmt::Display for NoSide {
+    ghost output = { λ _. Some (codes "a side is neither A nor B") };
+
     fn fmt<W: fmt::Write>(&self, f: &mut fmt::Formatter<W>) -> fmt::Result {
         f.write_str("a side is neither A nor B")
     }

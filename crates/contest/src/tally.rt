@@ -34,7 +34,7 @@ impl Tally {
         }
         Ok(Tally {
             goal,
-            counts: Counts { a: 0, b: 0 },
+            counts: Counts::default(),
         })
     }
 
@@ -50,7 +50,7 @@ impl Tally {
     fn reaches(&self, x: u16, y: u16) -> bool
         ensures { result ≡ reaches self.now.goal x y }
     {
-        (x >= self.goal.target && x as u32 >= y as u32 + self.goal.lead as u32)
+        (x >= self.goal.target && u32::from(x) >= u32::from(y) + u32::from(self.goal.lead))
             || x == self.goal.cap
     }
 
@@ -86,8 +86,7 @@ impl Tally {
         ensures goal { self.new.goal ≡ self.old.goal }
         ensures counts { self.new.counts ≡ none_yet }
     {
-        self.counts.a = 0;
-        self.counts.b = 0;
+        self.counts = Counts::default();
     }
 
     // One more for a side. Nobody has won yet, so both counts are below the cap.

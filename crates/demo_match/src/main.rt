@@ -10,7 +10,7 @@ use std::io;
 use umpire::matches::Match;
 use umpire::rally::CallFault;
 
-// Calls a rally and settles it, which cannot be refused. Gives the rally's number.
+// Calls a rally and settles it, which cannot be refused. Gives the rally's number, which the match's own `call_and_settle` keeps to itself.
 fn lead_rally<C: Contest>(
     ongoing: &mut Match<C>,
     log: &mut Roll<Entry>,
@@ -20,7 +20,7 @@ fn lead_rally<C: Contest>(
     let number = rally.numbers().number;
     match ongoing.settle(log, rally, outcome) {
         Ok(()) => Ok(number),
-        Err(_unsettled) => unreachable(),
+        Err(_unsettled) => unreachable!(),
     }
 }
 

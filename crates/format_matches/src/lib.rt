@@ -28,7 +28,7 @@ pub enum PlayedFormat {
     SideOut(Played<SideOut>),
 }
 
-// Plays a match in a format. A line for each format, as in the table.
+// Plays a match in a format. A line for each format, as in the table: each has a pile of another type, and no closure is generic.
 #[rattlefmt::skip]
 pub fn play_format(
     format: Format,

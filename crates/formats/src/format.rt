@@ -37,7 +37,7 @@ const FORMATS: [Format; 8] = [
 pub struct NoFormat;
 
 impl Format {
-    // The name of the format, for those who put it into bytes and not into a formatter.
+    // The name of the format, for those who put it into bytes or pad it.
     pub fn name(self) -> &'static str
         ensures { result.now ≡ name_of self }
     {

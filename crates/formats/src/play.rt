@@ -7,7 +7,8 @@ use contest::play::{Outcome, outcome_of};
 use contest::side::Side;
 
 // Opens the pile of a format for `opener`, gives it the points in turn up to the first that it refuses, and tells what came of
-// it, with the level at `depth`. The contract names the table's pile and nothing of the code.
+// it, with the level at `depth`. The contract names the table's pile and nothing of the code. Each arm has a pile of another type,
+// and no closure is generic.
 pub fn play_format(format: Format, opener: Side, points: &[Side], depth: u16) -> Outcome
     ensures { InFormat format (λ h p. Tells p opener points.now depth result) }
 {

@@ -43,7 +43,8 @@ impl LastRally {
 }
 
 impl Heading {
-    // The match of a line `match FORMAT NUMBER OPENER`, with the number of the log's places behind it if that is not `most`.
+    // The match of a line `match FORMAT NUMBER OPENER`, with the number of the log's places behind it if that is not `most`: no `FromStr`, which
+    // has no second argument.
     fn read(line: &str, most: usize) -> Option<Heading> {
         let mut words = line.split_whitespace();
         if words.next()? != "match" {

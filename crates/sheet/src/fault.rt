@@ -31,13 +31,12 @@ impl ScoreFault {
         }
     }
 
-    // The index of the entry, or 0 where it is none.
+    // The index of the entry, or 0 where it is none: it is told beside the number, as 0.
     pub fn place(self) -> usize
         ensures { result ≡ score_fault_place self }
     {
         match self {
-            ScoreFault::AfterEnd(index) => index,
-            ScoreFault::NoPlace(index) => index,
+            ScoreFault::AfterEnd(index) | ScoreFault::NoPlace(index) => index,
             ScoreFault::Code | ScoreFault::Space => 0,
         }
     }

@@ -19,7 +19,6 @@ pub struct Scored {
 }
 
 // Scores a log in a format. The log, the closings and the sheet are lent one by one: in a struct, each would need a clause that it is still the lender's.
-//
 pub(crate) fn score_in<C: Contest + Drop>(
     mut pile: C,
     heading: Heading,

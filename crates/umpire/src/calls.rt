@@ -7,7 +7,7 @@ use contest::side::Side;
 use rally_log::entry::Entry;
 
 // What a match has counted.
-#[derive(Clone, Copy)]
+#[derive(Clone, Copy, Default)]
 pub struct Totals {
     // the rallies called
     pub called: u16,
@@ -38,7 +38,7 @@ pub enum Call {
     Totals,
 }
 
-// What a call is answered.
+// What a call is answered. A refusal is one of the answers and no `Err`, since all of them are told in one list.
 #[derive(Clone, Copy)]
 pub enum Answer {
     // The rally is called.

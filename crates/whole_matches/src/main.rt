@@ -31,6 +31,7 @@ fn points_of(heap: Global, text: &str) -> anyhow::Result<Vec<Side>> {
         .try_collect(heap)
 }
 
+// A line of the table: no `FromStr`, which is given no heap.
 fn parse_line(heap: Global, text: &str) -> anyhow::Result<Line> {
     let (name, rest) = text.split_once(' ').context("a line has no opener")?;
     let (opener, points) = rest.split_once(' ').context("a line has no points")?;

@@ -5,6 +5,7 @@ use super::{Command, NoCommand};
 use crate::text::COMMANDS;
 use contest::side::Side;
 use rally_log::entry::Entry;
+use std::error::Error;
 use std::fmt;
 use std::str::{FromStr, from_utf8};
 
@@ -14,7 +15,7 @@ fn is_blank(byte: u8) -> bool
     byte == b' ' || byte == b'\t' || byte == b'\r'
 }
 
-// The line without the blanks before its first word.
+// The line without the blanks before its first word. The library's `trim_ascii` takes more than these three for blanks.
 fn skip_blanks(mut line: &[u8]) -> &[u8]
     ensures { result.now ≡ unindented line.entry.now }
 {
@@ -85,3 +86,5 @@ impl fmt::Display for NoCommand {
         write!(f, "not a command; {COMMANDS}")
     }
 }
+
+impl Error for NoCommand {}

@@ -1,5 +1,5 @@
-ghost use Rattle.std.specs.Prelude.{◌≡◌};
-ghost use Rattle.contest.specs.Service.{stay, turn, to_winner, carry, pairs, twos};
+ghost use Rattle.std.specs.Prelude.{◌≡◌, ◌+◌};
+ghost use Rattle.contest.specs.Service.{stay, turn, to_winner, carry, pairs, twos, even, side_if};
 ghost use Rattle.std.proofs.Common.{rules};
 
 use super::{Service, Situation};
@@ -28,6 +28,26 @@ pub struct Pairs;
 // Each side opens twice in turn, and once in turn as soon as both counts are at least ten.
 #[derive(Clone, Copy)]
 pub struct Twos;
+
+impl Situation {
+    // How many lower contests were played.
+    fn played(&self) -> u32
+        ensures { result ≡ self.now.a + self.now.b }
+    {
+        u32::from(self.a) + u32::from(self.b)
+    }
+}
+
+// The opener after an even number of turns, else the other side.
+fn after_turns(opener: Side, turns: u32) -> Side
+    ensures { result ≡ side_if (even turns) opener }
+{
+    if turns % 2 == 0 {
+        opener
+    } else {
+        opener.opponent()
+    }
+}
 
 impl Service for Stay {
     ghost rule = { λ _. stay };
@@ -85,12 +105,7 @@ impl Service for Pairs {
     fn next(&self, situation: Situation) -> Side
         ensures { result ≡ pairs situation }
     {
-        let played = situation.a as u32 + situation.b as u32;
-        if (played + 1) / 2 % 2 == 0 {
-            situation.opener
-        } else {
-            situation.opener.opponent()
-        }
+        after_turns(situation.opener, (situation.played() + 1) / 2)
     }
 }
 
@@ -102,16 +117,12 @@ impl Service for Twos {
     fn next(&self, situation: Situation) -> Side
         ensures { result ≡ twos situation }
     {
-        let played = situation.a as u32 + situation.b as u32;
+        let played = situation.played();
         let turns = if situation.a >= 10 && situation.b >= 10 {
             played
         } else {
             played / 2
         };
-        if turns % 2 == 0 {
-            situation.opener
-        } else {
-            situation.opener.opponent()
-        }
+        after_turns(situation.opener, turns)
     }
 }

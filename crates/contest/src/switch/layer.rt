@@ -7,7 +7,7 @@ ghost use Rattle.contest.specs.Goals.{winner_by};
 ghost use Rattle.contest.specs.Layers.{next_opener};
 ghost use Rattle.contest.specs.Piles.{contest_of, switch_of, switched, switch_layer};
 ghost use Rattle.contest.specs.Plays.{Plays};
-ghost use Rattle.contest.specs.GoalsLemmas.{no_switch_fault};
+ghost use Rattle.contest.specs.GoalsLemmas.{goal_allowed, no_switch_fault};
 
 use super::Switch;
 use crate::contest::Contest;
@@ -175,7 +175,7 @@ impl<C: Contest, D: Contest, P: Service> Contest for Switch<C, D, P> {
     ghost standing = { switch_standing C.Contest.standing D.Contest.standing };
 
     ghost sound = { λ s. (
-      no_switch_fault s.tally.goal s.threshold s.tally.allowed s.allowed,
+      no_switch_fault s.tally.goal s.threshold (goal_allowed s.tally.goal s.tally.allowed) s.allowed,
       P.Service.fair s.service,
       C.Contest.sound s.ordinary,
       D.Contest.sound s.deciding,

@@ -18,17 +18,10 @@ impl<C: Contest> Match<C> {
         ensures totals { totals_of result ≡ none_yet }
     {
         pile.open(opener);
-        let totals = Totals {
-            called: 0,
-            a: 0,
-            b: 0,
-            lets: 0,
-            in_play: None,
-        };
         Match {
             number,
             pile,
-            totals,
+            totals: Totals::default(),
         }
     }
 
