@@ -18,6 +18,7 @@ pub trait Contest {
     ghost standing: { Self → StandingOf shape };
 
     // Starts anew for `opener`, from any standing.
+    // The clause `kept` stands at each call that is lent a contest to change: it could put one of other rules there, so no type carries it.
     fn open(&mut self, opener: Side)
         ensures kept { pile self.new ≡ pile self.old }
         ensures opened { standing self.new ≡ (contest_of (pile self.old)).opening opener };

@@ -89,7 +89,8 @@ impl Tally {
         self.counts = Counts::default();
     }
 
-    // One more for a side. Nobody has won yet, so both counts are below the cap.
+    // One more for a side. Nobody has won yet, so both counts are below the cap: asked of the two layers and no invariant, since a tally whose
+    // counts have a winner is one too.
     pub(crate) fn count(&mut self, side: Side)
         requires { winner_by self.old.goal self.old.counts ≡ None }
         ensures goal { self.new.goal ≡ self.old.goal }
