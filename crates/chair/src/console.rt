@@ -1,4 +1,4 @@
-ghost use Rattle.std.specs.Prelude.{◌≡◌};
+ghost use Rattle.std.specs.Prelude.{◌≡◌, None, IfOk};
 
 use crate::board::Board;
 use crate::command::Command;
@@ -40,8 +40,10 @@ impl<'rt, 's, 'a, 'b, C: Contest> Console<'rt, 's, 'a, 'b, C> {
         }
     }
 
-    // Leads the match from the first score to the last.
-    pub fn sit(&mut self) -> anyhow::Result<()> {
+    // Leads the match from the first score to the last. If nothing fails, no rally is left open.
+    pub fn sit(&mut self) -> anyhow::Result<()>
+        ensures { IfOk result (λ _. self.new.session.now.held ≡ None) }
+    {
         println!(self.rt; "{COMMANDS}\n")?;
         self.show(None)?;
         self.attend()?;
@@ -70,7 +72,9 @@ impl<'rt, 's, 'a, 'b, C: Contest> Console<'rt, 's, 'a, 'b, C> {
     }
 
     // Settles a rally that is open as a let, and shows the last score.
-    fn close(&mut self) -> anyhow::Result<()> {
+    fn close(&mut self) -> anyhow::Result<()>
+        ensures { IfOk result (λ _. self.new.session.now.held ≡ None) }
+    {
         let open = self.session.ongoing().totals().in_play;
         let reply = self.session.close();
         append(&mut self.file, reply.record())?;
