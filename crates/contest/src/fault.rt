@@ -43,7 +43,7 @@ impl RuleFault {
     pub fn number(self) -> u8
         ensures { result ≡ rule_fault_number self }
     {
-        self as u8
+        self as u8 // 1 to 4
     }
 }
 

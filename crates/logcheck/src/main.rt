@@ -141,7 +141,9 @@ fn read_longest(rt: &HostRuntime, bytes: &[u8; SPACE]) -> io::Result<()> {
 // A log of 65,536 bytes, all lets.
 fn all_lets(rt: &HostRuntime) -> io::Result<()> {
     let mut bytes = [b'L'; SPACE];
-    bytes[..HEADER_LENGTH].copy_from_slice(&GOOD[..HEADER_LENGTH]);
+    bytes[0] = b'M';
+    bytes[3] = 0;
+    bytes[4] = b'A';
     tell(rt, "lets", SPACE - HEADER_LENGTH, &bytes, PLACES)
 }
 

@@ -4,17 +4,18 @@
 // error of input or output is reported on the standard error, with status 1.
 #![tactic(auto)]
 
+ghost use Rattle.std.specs.Prelude.{◌≤◌, IfOk, vec_len};
+
 use contest::side::Side;
 use rally_log::entry::Entry;
 use sheet::closing::Closing;
 use sheet::sheets::score_log;
 use std::fs::File;
-use std::io;
 use std::io::{ErrorKind, Read, Write};
 
 const LOG: &str = "rally.log";
 
-const LOG_BYTES: u64 = 65_536;
+const LOG_BYTES: usize = 65_536;
 
 const ENTRIES: usize = 30_000;
 
@@ -22,14 +23,18 @@ const CLOSINGS: usize = 4_000;
 
 const SHEET_BYTES: usize = 65_536;
 
-// The bytes of the log, as far as they are read; none, where there is no file.
-fn read_log(rt: &HostRuntime) -> io::Result<Vec<u8>> {
-    let mut bytes = Vec::new(rt.alloc());
+// The bytes of the log, as far as they are read; none, where there is no file. There is room for one more than are read, so that the end
+// is met without more memory. `truncate` cuts nothing off: that `take` gives no more is said of one `read`, and not of `read_to_end`.
+fn read_log(rt: &HostRuntime) -> anyhow::Result<Vec<u8>>
+    ensures { IfOk result (λ bytes. vec_len bytes ≤ 65536) }
+{
+    let mut bytes = Vec::with_capacity(rt.alloc(), LOG_BYTES + 1)?;
     let file = match File::open(rt, LOG) {
         Err(error) if error.kind() == ErrorKind::NotFound => return Ok(bytes),
         opened => opened?,
     };
-    file.take(LOG_BYTES).read_to_end(&mut bytes)?;
+    file.take(LOG_BYTES as u64).read_to_end(&mut bytes)?;
+    bytes.truncate(LOG_BYTES);
     Ok(bytes)
 }
 

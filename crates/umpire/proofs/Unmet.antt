@@ -14,7 +14,7 @@ use Rattle.umpire.proofs.Refusals.{settle_open}
 use Rattle.umpire.proofs.Inductions.{Consistent, consistent_after, consistent_length}
 
 -- a fault comes from one of the checks
-first_then : (f : CallFault) (x y : Option CallFault) → (x ≡ Some f → ⊥) → (x ≡ None → y ≡ Some f → ⊥) → first_refusal x y ≡ Some f → ⊥
+pub first_then : (f : CallFault) (x y : Option CallFault) → (x ≡ Some f → ⊥) → (x ≡ None → y ≡ Some f → ⊥) → first_refusal x y ≡ Some f → ⊥
 first_then f (Some g) y h k e = h e
 first_then f None y h k e = k refl e
 

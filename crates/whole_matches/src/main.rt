@@ -76,10 +76,10 @@ fn replay<C: Contest + Drop>(rt: &HostRuntime, mut pile: C, line: &Line) -> anyh
     pile.open(line.opener);
     let servers = servers(rt.alloc(), &mut pile, &line.points)?;
     let taken = servers.len();
-    print!(rt; "{} {} taken {taken} winner ", line.format, line.opener)?;
+    let Line { format, opener, .. } = line;
     match pile.winner() {
-        Some(side) => println!(rt; "{side}")?,
-        None => println!(rt; "nobody")?,
+        Some(side) => println!(rt; "{format} {opener} taken {taken} winner {side}")?,
+        None => println!(rt; "{format} {opener} taken {taken} winner nobody")?,
     }
     println!(rt; "servers {servers}")?;
     let levels = levels(rt.alloc(), &pile)?;

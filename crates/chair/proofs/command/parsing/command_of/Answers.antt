@@ -1,9 +1,7 @@
-use Rattle.std.proofs.Common.{IsUtf8, sym, ◌∙◌, subst, ⊎_elim}
-use Rattle.chair.proofs.Words.{word_is_text, letter_is_text}
+use Rattle.std.proofs.Common.{IsUtf8, sym, subst}
+use Rattle.chair.specs.Commands.{trimmed}
+use Rattle.chair.proofs.Words.{no_text_no_command}
 use Rattle.chair.proofs.command.parsing.command_of.Goals as goal
 
 pub returns-in-Err : goal.returns-in-Err
-returns-in-Err c k =
-    let is = c.without_blanks.ensures in
-    let no_text = c.in-Err.ensures.cases.0 in
-    ⊎_elim (λ e. no_text (subst IsUtf8 (sym (is ∙ e)) (word_is_text k))) (λ e. no_text (subst IsUtf8 (sym (is ∙ e)) (letter_is_text k)))
+returns-in-Err c = no_text_no_command (trimmed c.args.line.now) (record {}) (λ text. c.in-Err.ensures.cases.0 (subst IsUtf8 (sym c.without_blanks.ensures) text))
