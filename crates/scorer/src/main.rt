@@ -4,13 +4,14 @@
 // error of input or output is reported on the standard error, with status 1.
 #![tactic(auto)]
 
-ghost use Rattle.std.specs.Prelude.{◌≤◌, IfOk, vec_len};
+ghost use Rattle.std.specs.Prelude.{◌≤◌, length, IfOk};
 
 use contest::side::Side;
 use rally_log::entry::Entry;
 use sheet::closing::Closing;
 use sheet::sheets::score_log;
 use std::fs::File;
+use std::io;
 use std::io::{ErrorKind, Read, Write};
 
 const LOG: &str = "rally.log";
@@ -23,26 +24,39 @@ const CLOSINGS: usize = 4_000;
 
 const SHEET_BYTES: usize = 65_536;
 
-// The bytes of the log, as far as they are read; none, where there is no file. There is room for one more than are read, so that the end
-// is met without more memory. `truncate` cuts nothing off: that `take` gives no more is said of one `read`, and not of `read_to_end`.
-fn read_log(rt: &HostRuntime) -> anyhow::Result<Vec<u8>>
-    ensures { IfOk result (λ bytes. vec_len bytes ≤ 65536) }
+// Reads the file into the bytes, as far as they go, and says how many there are. No `take` and `read_to_end`: with these no contract says
+// that no more is read than there is room for.
+fn fill(file: &mut File, bytes: &mut [u8]) -> io::Result<usize>
+    ensures { IfOk result (λ count. count ≤ length bytes.old) }
 {
-    let mut bytes = Vec::with_capacity(rt.alloc(), LOG_BYTES + 1)?;
-    let file = match File::open(rt, LOG) {
-        Err(error) if error.kind() == ErrorKind::NotFound => return Ok(bytes),
+    let mut count = 0usize;
+    while count < bytes.len() {
+        let more = file.read(&mut bytes[count..])?;
+        if more == 0 {
+            break;
+        }
+        count += more;
+    }
+    Ok(count)
+}
+
+// How many bytes of the log there are; none, where there is no file.
+fn read_log(rt: &HostRuntime, bytes: &mut [u8]) -> io::Result<usize>
+    ensures { IfOk result (λ count. count ≤ length bytes.old) }
+{
+    let mut file = match File::open(rt, LOG) {
+        Err(error) if error.kind() == ErrorKind::NotFound => return Ok(0),
         opened => opened?,
     };
-    file.take(LOG_BYTES as u64).read_to_end(&mut bytes)?;
-    bytes.truncate(LOG_BYTES);
-    Ok(bytes)
+    fill(&mut file, bytes)
 }
 
 // The program `samples` makes the same places and prints the same way: a library of these lines would need a heap and output, and
 // could promise nothing of what is printed.
 fn run(rt: &HostRuntime) -> anyhow::Result<()> {
     let heap = rt.alloc();
-    let bytes = read_log(rt)?;
+    let mut bytes = vec![in heap; 0u8; LOG_BYTES]?;
+    let count = read_log(rt, &mut bytes)?;
     let mut entries = vec![in heap; Entry::Let; ENTRIES]?;
     let unused = Closing {
         depth: 0,
@@ -52,7 +66,7 @@ fn run(rt: &HostRuntime) -> anyhow::Result<()> {
     };
     let mut closings = vec![in heap; unused; CLOSINGS]?;
     let mut sheet = vec![in heap; 0u8; SHEET_BYTES]?;
-    match score_log(&bytes, &mut entries, &mut closings, &mut sheet) {
+    match score_log(&bytes[..count], &mut entries, &mut closings, &mut sheet) {
         Ok(scored) => rt.stdout().write_all(&sheet[..scored.length])?,
         Err(fault) => println!(rt; "{fault}")?,
     }
